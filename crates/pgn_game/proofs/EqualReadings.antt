@@ -1,5 +1,5 @@
 -- Two equal readings: no token of the second shows a difference, also where one stops early.
-use Rattle.pgn_game.proofs.Words.{◌≡◌, ℕ, Bool, true, false, List, [], ◌∷◌, ◌++◌, inl, inr, Option, None, Some, refl, ap, ◌∙◌, append-nil, ◌==◌, bytes_eq-Decides, tokens_of, RisesTo, TokensRise, Token, Reason, Changed, Fault, Profile, takes_the_marker, Game, Part, refusal, is_end, Next, going, whole, next, Progress, no_progress, progress_after, read, read_from, eqb_tells, arith, rules, PlacedMarker, marker_at, markers_from, Comparison, compared_from, compared, written_by, is_other, is_changed, markers_after, written_so_far as written, verdict_of, sym, EqualReadings}
+use Rattle.pgn_game.proofs.Words.{◌≡◌, ℕ, Bool, true, false, List, [], ◌∷◌, ◌++◌, inl, inr, Option, None, Some, refl, ap, ◌∙◌, append-nil, ◌==◌, bytes_eq-Decides, tokens_of, RisesTo, TokensRise, Token, Reason, Changed, Fault, Profile, takes_the_marker, Game, Part, refusal, is_end, Next, going, whole, next, Progress, no_progress, progress_after, read, read_from, eqb_tells, arith, rules, PlacedMarker, marker_at, markers_from, Comparison, compared_from, compared, written_by, is_other, is_changed, markers_after, written_so_far as written, verdict_of, EqualReadings}
 use Rattle.pgn_game.proofs.stepping.OneMoreToken.{by_token}
 use Rattle.pgn_game.proofs.reading.RunsToEnd.{not_end}
 
@@ -86,20 +86,14 @@ pub rejected_token : (p : Profile) (b : Progress) (t : Token) (ts us : List Toke
 rejected_token p b t ts us is = cc
 
 pub rest_ends : (t : Token) (ts : List Token) → Ends (t ∷ ts) → Ends ts
-rest_ends t [] last = tt
-rest_ends t (u ∷ ts) last = last.1
+rest_ends t ts last = search rules
 
 -- The second reading has the tokens of the first, and more.
 pub compared_same : (p : Profile) (b : Progress) (ts more : List Token) → Ends ts
     → Same (compared_from p (markers_from p b ts) b (ts ++ more)) (read_from p b ts).progress.games
 compared_same p b [] more last = (rw (no_marker_ahead p b more) (record { fault = refl; markers_left = refl; games = refl }))
 compared_same p b (t ∷ ts) more last =
-    by_token p b t ts (λ r. Same (compared_from p (markers_from p b (t ∷ ts)) b (t ∷ ts ++ more)) r.progress.games)
-    (λ reason is. rw (rejected_token p b t ts (ts ++ more) is) (record { fault = refl; markers_left = refl; games = refl }))
-    (λ is.
-    same_token (λ (f : Comparison). Same f (read_from p (progress_after b t) ts).progress.games)
-    (λ b c alike so. record { fault = refl; markers_left = refl; games = sym alike ∙ so.games }) p b t ts (ts ++ more) last is
-    (compared_same p (progress_after b t) ts more (rest_ends t ts last)))
+    search (rules, by_token, rejected_token, same_token, rest_ends, (compared_same p (progress_after b t) ts more (rest_ends t ts last)))
 
 -- What is written at the last marker: the finished games, as in one reading.
 pub written_same : (p : Profile) {f : Comparison} (b : Progress)
@@ -116,7 +110,4 @@ equal_readings rise p s takes =
     let ts = tokens_of s in
     let f = compared p ts ts in
     let r = read p ts in
-    let so = (rw (append-nil ts) at (compared_same p no_progress ts [] (ends ts (rise s)))) in (
-      (rw so.fault (same_verdict f.progress r.progress r.fault so.games)),
-      written_same p r.progress takes so,
-    )
+    let so = (rw (append-nil ts) at (compared_same p no_progress ts [] (ends ts (rise s)))) in search (rules, same_verdict, written_same)

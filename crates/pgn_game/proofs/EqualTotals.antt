@@ -1,7 +1,7 @@
 -- Two equal readings: the most pairs tried are those of the second one.
-use Rattle.pgn_game.proofs.Words.{◌≡◌, ℕ, max, Bool, true, false, List, [], ◌∷◌, ◌++◌, None, refl, sym, ap, subst, ◌∙◌, append-nil, arith, Token, TokensRise, RisesTo, tokens_of, Profile, takes_the_marker, Game, no_part, Next, going, whole, next, Progress, no_progress, progress_with, progress_after, Read, read, read_from, verdict, verdict_of, PlacedMarker, Comparison, compared, compared_from, markers_after, markers_from, is_changed, MostFrom, MostTried, Totals, Device, verdict_in, IsTotalled, IsTrue, play_moves, append_cancel_left, AreTotalled, HasTaken, MostOfBoth, EqualTotals, common_steps}
+use Rattle.pgn_game.proofs.Words.{◌≡◌, ℕ, max, Bool, false, List, [], ◌∷◌, ◌++◌, None, refl, sym, ap, subst, ◌∙◌, append-nil, arith, Token, TokensRise, RisesTo, tokens_of, Profile, takes_the_marker, Game, no_part, Next, next, Progress, no_progress, progress_with, progress_after, Read, read, read_from, verdict, verdict_of, PlacedMarker, Comparison, compared, compared_from, markers_after, markers_from, is_changed, MostFrom, MostTried, Totals, Device, verdict_in, IsTotalled, IsTrue, play_moves, append_cancel_left, AreTotalled, HasTaken, MostOfBoth, EqualTotals, common_steps, rules}
 use Rattle.pgn_game.proofs.EqualReadings.{equal_readings, after_change, change_test, compared_same, ends, Same}
-use Rattle.pgn_game.proofs.reading.RunsToEnd.{Runs, kinds, from_read}
+use Rattle.pgn_game.proofs.reading.RunsToEnd.{kinds, from_read}
 use Rattle.pgn_game.proofs.stepping.NoneBeforeFault.{reads_behind}
 use Rattle.pgn_game.proofs.stepping.PairsTriedBetweenGames.{none_tried}
 use Rattle.pgn_game.proofs.stepping.PairsTriedForToken.{most_then}
@@ -13,14 +13,12 @@ EndsBetween f = f.fault ≡ None → f.markers_left ≡ [] → f.progress.part �
 
 by_change : (p : Profile) (m : PlacedMarker) (ms : List PlacedMarker) (b : Progress) (t : Token) (ts : List Token) (changed : Bool)
     → EndsBetween (compared_from p (markers_after (next b.part t.kind) m ms) (progress_after b t) ts) → EndsBetween (after_change p m ms b t ts changed)
-by_change p m ms b t ts true rest = λ same none. absurd (cc)
-by_change p m ms b t ts false rest = rest
+by_change p m ms b t ts changed rest = search rules
 
 -- a token that finishes no game leaves its marker
 between_next : (n : Next) (m : PlacedMarker) (ms : List PlacedMarker) (games : List Game) → markers_after n m ms ≡ []
     → (progress_with games n).part ≡ no_part
-between_next (going to) m ms games none = absurd (cc)
-between_next (whole g) m ms games none = refl
+between_next n m ms games none = search rules
 
 last_marker : (p : Profile) (ms : List PlacedMarker) (b : Progress) (us : List Token) → (ms ≡ [] → b.part ≡ no_part)
     → EndsBetween (compared_from p ms b us)
@@ -43,8 +41,7 @@ none_behind : (p : Profile) (b : Progress) (front rest : List Token) → RisesTo
 none_behind p b front [] rises between passes same = MostFrom.none b
 none_behind p b front (t ∷ ts) rises between passes same =
     let on = from_read p b (t ∷ ts) (rises_behind front t ts rises) passes in
-    let none = append_cancel_left b.games on.0 [] (sym on.1.same ∙ same ∙ sym (append-nil b.games)) in
-    none_tried p b (t ∷ ts) (subst (Runs p b.part (kinds (t ∷ ts))) none on.1.runs) between
+    let none = append_cancel_left b.games on.0 [] (sym on.1.same ∙ same ∙ sym (append-nil b.games)) in search (rules, none_tried, kinds)
 
 -- a verdict with totals has no fault
 no_fault : (r : Read) (t : Totals) → verdict_of r ≡ verdict_in t → r.fault ≡ None

@@ -18,11 +18,7 @@ longer : (xs ys vs ws : List Token) → xs ++ vs ≡ ys ++ ws
     → ((more : List Token) × (ys ≡ xs ++ more)) ⊎ ((more : List Token) × (xs ≡ ys ++ more))
 longer [] ys vs ws same = inl (ys, refl)
 longer (x ∷ xs) [] vs ws same = inr (x ∷ xs, refl)
-longer (x ∷ xs) (y ∷ ys) vs ws same =
-    elim (longer xs ys vs ws cc) [
-      | inl h ↦ inl (h.0, cc (h.1, same))
-      | inr h ↦ inr (h.0, cc (h.1, same))
-    ]
+longer (x ∷ xs) (y ∷ ys) vs ws same = search (rules, (longer xs ys vs ws cc))
 
 module _ (p : Profile) (takes : p.missing_result ≡ takes_the_marker) where
   -- where a missing Result takes the marker, only whole games are written in one reading
@@ -54,11 +50,7 @@ module _ (p : Profile) (takes : p.missing_result ≡ takes_the_marker) where
   torn_ahead : (b : Progress) (ts : List Token) (m : PlacedMarker) (ms : List PlacedMarker) → markers_from p b ts ≡ m ∷ ms
       → Ahead b m (read_from p b ts)
   torn_ahead b [] m ms is = absurd (cc)
-  torn_ahead b (t ∷ ts) m ms is =
-      by_token p b t ts (Ahead b m) (λ reason rejects. let none : markers_from p b (t ∷ ts) ≡ [] = cc in absurd (cc))
-      (λ free.
-      torn_at_marker b t ts m (next b.part t.kind) refl (sym (markers_test p b t ts ∙ ap (after_markers p b t ts) free) ∙ is)
-      (torn_ahead (progress_after b t) ts m ms))
+  torn_ahead b (t ∷ ts) m ms is = search (rules, by_token, torn_at_marker, markers_test, after_markers, (torn_ahead (progress_after b t) ts m ms))
 
   -- What is written of one text where `second` stops behind a front of its tokens: `low` is what
   -- one reading has written by then, and `high` what it writes in all.
@@ -102,8 +94,7 @@ module _ (p : Profile) (takes : p.missing_result ≡ takes_the_marker) where
   -- `second` stops there
   pub second_stops : (us more : List Token) → Ends (us ++ more) → AreWrittenWithin p (compared p (us ++ more) us) (due p us) (due p (us ++ more))
   second_stops us more last =
-      let so = compared_within no_progress us more last in
-      record { fault = so.fault; least = search (rules, whole_games); most = so.most }
+      let so = compared_within no_progress us more last in search (rules, whole_games)
 
   -- The same where `first` has given the tokens ts, of which a marker is ahead.
   pub before_marker : (us more ts rest : List Token) {m : PlacedMarker} {ms : List PlacedMarker} → Ends (us ++ more)
@@ -113,10 +104,7 @@ module _ (p : Profile) (takes : p.missing_result ≡ takes_the_marker) where
     where
       by_length : ((z : List Token) × (us ≡ ts ++ z)) ⊎ ((z : List Token) × (ts ≡ us ++ z))
           → AreWrittenWithin p (compared p ts us) (due p us) (due p (us ++ more))
-      by_length (inl h) =
-          let none : (compared p ts us).markers_left ≡ [] =
-          rw h.1 ((first_stops ts h.0 (subst Ends h.1 (front_ends us more last))).no_marker_left) in
-          absurd (cc (none, ahead))
+      by_length (inl h) = search (rules, first_stops, front_ends)
       by_length (inr h) =
           let so = second_stops us h.0 (subst Ends h.1 (front_ends ts rest (subst Ends same last))) in
           let within = rw (← h.1) at so in
@@ -145,8 +133,7 @@ pub interrupted_readings : DecidedIsPrefix → TokensRise → InterruptedReading
 interrupted_readings decides rise =
     record {
       first_stops = λ p u x takes.
-          let h = decides u x in
-          rw h.1 (first_stops p takes (decided u) h.0 (subst Ends h.1 (ends (tokens_of (u ++ x)) (rise (u ++ x)))));
+          let h = decides u x in search (rules, first_stops, ends);
       second_stops = λ p u x ts rest m ms takes cut ahead.
           let h = decides u x in
           rw h.1 (before_marker p takes (decided u) h.0 ts rest (subst Ends h.1 (ends (tokens_of (u ++ x)) (rise (u ++ x)))) (sym h.1 ∙ cut)

@@ -1,5 +1,5 @@
 -- The search in the bytes of a source finds what the whole text shows.
-use Rattle.pgn_game.proofs.Words.{ℕ, ◌≡◌, ◌+◌, ◌-◌, ◌^◌, ◌<◌, ◌≤◌, Bool, true, List, ◌++◌, drop, length, Option, None, Some, IfSome, Ok, Consumes, is_some, refl, sym, ap, ◌∙◌, arith, length-append, common_steps, true≢false}
+use Rattle.pgn_game.proofs.Words.{ℕ, ◌≡◌, ◌+◌, ◌-◌, ◌^◌, ◌<◌, ◌≤◌, Bool, true, List, ◌++◌, drop, length, Option, None, Some, IfSome, Ok, Consumes, is_some, refl, sym, ap, ◌∙◌, arith, length-append, true≢false, rules}
 use Rattle.std.specs.Prelude.{min}
 use Rattle.pgn_layout.specs.Device.{Device, IsStill}
 use Rattle.pgn_sections.specs.Lines.{next_place}
@@ -10,9 +10,7 @@ use Rattle.pgn_game.specs.steps.SkippingSteps.{FindsSection, LeavesToSearch, Sea
 -- the count of games goes on
 pub counts_on : (earlier total shown : ℕ) → total ≡ min earlier (2 ^ 64 - 1) → shown ≡ 0
     → min (total + shown) (2 ^ 64 - 1) ≡ min earlier (2 ^ 64 - 1)
-counts_on earlier total shown e f = rw (e, f) (again earlier (2 ^ 64 - 1)) where
-  again : (n m : ℕ) → min (min n m + 0) m ≡ min n m
-  again n m = grind (arith, common_steps)
+counts_on earlier total shown e f = search rules
 
 -- one piece more
 
@@ -35,9 +33,7 @@ module _ (begin fault place : ℕ) (old : LineReader) (piece : List ℕ) (from :
   one_more_piece : (text : Option (List ℕ)) (new : LineReader) (before left : Option (List ℕ)) → Reads new → Consumes before left piece
       → IfSome text (λ s. LeavesToSearch s begin fault place old before)
       → IfSome text (λ s. LeavesToSearch s begin fault (place + length piece) new left)
-  one_more_piece None new before left reads consumed so = tt
-  one_more_piece (Some s) new before left reads consumed so =
-      rest_behind s so.rest new left reads (rw so.is at consumed) so.count so.finds
+  one_more_piece text new before left reads consumed so = search (rules, rest_behind)
 
 pub search_goes_on : (text : Option (List ℕ)) (begin fault place : ℕ) (old new : LineReader) (before left : Option (List ℕ))
     (piece : List ℕ) → SearchSoFar text begin fault place old before → Consumes before left piece → place + length piece ≤ 2 ^ 62

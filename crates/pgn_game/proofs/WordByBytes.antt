@@ -1,5 +1,5 @@
 -- A word of a text grows by each byte that is no white space.
-use Rattle.pgn_game.proofs.Words.{◌≡◌, ℕ, suc, ◌+◌, ◌-◌, ◌<◌, ◌≤◌, false, List, [], ◌∷◌, ◌++◌, length, take, drop, get_or, refl, sym, ap, ◌∙◌, subst, arith, drop-cons, take-suc, length-drop, get_or-drop, is_space, words_behind, bytes_between, common_steps}
+use Rattle.pgn_game.proofs.Words.{◌≡◌, ℕ, suc, ◌+◌, ◌-◌, ◌<◌, ◌≤◌, false, List, [], ◌∷◌, ◌++◌, length, drop, get_or, refl, subst, arith, drop-cons, take-suc, length-drop, get_or-drop, is_space, words_behind, bytes_between, common_steps, rules}
 
 at_other : (at b : ℕ) (w s : List ℕ) → is_space b ≡ false → words_behind at w (b ∷ s) ≡ words_behind at (w ++ b ∷ []) s
 at_other at b w s e = rw e refl
@@ -14,9 +14,7 @@ between_grown : (s : List ℕ) (begin end : ℕ) → begin ≤ end → end < len
     → bytes_between s begin end ++ get_or s end 0 ∷ [] ≡ bytes_between s begin (end + 1)
 between_grown s begin end ordered within =
     let there : begin + (end - begin) ≡ end = omega arith in let more : suc (end - begin) ≡ (end + 1) - begin = omega arith in
-    ap (λ (b : ℕ). bytes_between s begin end ++ b ∷ []) (sym (get_or-drop begin s (end - begin) 0 ∙ ap (λ (n : ℕ). get_or s n 0) there))
-    ∙ sym (take-suc (drop begin s) (end - begin) 0 (omega (arith, length-drop begin s)))
-    ∙ ap (λ (n : ℕ). take n (drop begin s)) more
+    search (rules, get_or-drop, take-suc, length-drop)
 
 pub word_grown : (s : List ℕ) (begin end : ℕ) → begin ≤ end → end < length s → is_space (get_or s end 0) ≡ false
     → words_behind begin (bytes_between s begin end) (drop end s) ≡ words_behind begin (bytes_between s begin (end + 1)) (drop (end + 1) s)

@@ -63,12 +63,12 @@ pub use Rattle.pgn_game.specs.declared.marker.Marker.TheVariants.{BlackWins, Dra
 pub use Rattle.pgn_layout.specs.Device.{AppendsFront, Counts, Device, Writes, WritesText, device, one_more, FailsOnce, IsStill, nowhere}
 pub use Rattle.pgn_layout.specs.Layout.{EndGame, Put, ended, laid_from, line_at, line_put, text_at, text_put}
 pub use Rattle.pgn_layout.specs.Lines.{IsToken, full_lines, has_room, last_line, lines_from, lines_of, text_of}
-pub use Rattle.pgn_layout.specs.TagLine.{escape_of, escaped, needs_escape, tag_line}
+pub use Rattle.pgn_layout.specs.TagLine.{escaped, tag_line}
 pub use Rattle.pgn_lexer.specs.Bytes.{continues_symbol, is_space, starts_symbol}
 pub use Rattle.pgn_lexer.specs.Laws.{IsLast, KindsAreReadBack, NumbersAreSymbols, RisesTo, TokensAreSound, TokensRise, TextsRestart, CanBeMarker, DecidedIsPrefix, BeginsWithToken, SymbolsStandInText}
 pub use Rattle.pgn_lexer.specs.Scanned.{kind_of, fault, more}
 pub use Rattle.pgn_lexer.specs.Sound.{CommentsClose, IsData, IsSoundKind, IsSymbol, begins_with, IsWord}
-pub use Rattle.pgn_lexer.specs.TokensOf.{tokens_of, onto, Within, begins, begins_after, begins_class, begins_first, column, has_mark}
+pub use Rattle.pgn_lexer.specs.TokensOf.{tokens_of, onto, Within, begins, begins_after, begins_class, begins_first, column}
 pub use Rattle.pgn_lexer.specs.Written.{AreEnded, IsEndedBy, IsPiece, IsReadable, Piece, kinds_in, text_of_pieces, written}
 pub use Rattle.pgn_lexer.specs.declared.token.TokenKind.{TokenKind}
 pub use Rattle.chess_text.specs.MoveOfForm.{form_pairs, move_of_form, with_next}
@@ -78,12 +78,12 @@ pub use Rattle.pgn_game.specs.laws.Laws.{IsPrefix, DueGrows}
 unfoldable pub use Rattle.pgn_game.specs.public.Tried.{Costs}
 pub use Rattle.std.proofs.lemmas.Result.{err_from_is_err_and}
 pub use Rattle.pgn_game.specs.public.Tried.{AddsPairs, CostsAnswer, CostsForm, Costs}
-pub use Rattle.pgn_game.specs.public.ConverterCalls.{NoWriteFails, StillStands, writing_nothing, AreNext, within_limit, Converter, CountsFault, CountsMissingAs, CountsReason, FedAll, FedFault, FedGame, FedToFault, FedWhole, FinishedGame, HasRead, IsSound, ReadsUpTo, Stands, StopsIn, at_token, counting_missing_as, finished_game_of, finished_game_plies, game_in_reader_if, play_moves, profile_of, too_long, AfterFinish, Finishes, FinishesToFault, game_in_reader, Stops, unwritten, StopsWriting, games_before, position_at_stop, ProbesAtStop, has_played_move, reported_position, refused as refused_stop, IsLast as IsLastGame, AreShown, Feeds, IsRefused, ReadsByMarker, reading_by_marker, so_far}
+pub use Rattle.pgn_game.specs.public.ConverterCalls.{NoWriteFails, StillStands, writing_nothing, AreNext, within_limit, Converter, CountsFault, CountsMissingAs, CountsReason, FedAll, FedFault, FedGame, FedToFault, FedWhole, FinishedGame, HasRead, IsSound, ReadsUpTo, Stands, StopsIn, at_token, counting_missing_as, finished_game_of, game_in_reader_if, play_moves, profile_of, too_long, AfterFinish, Finishes, FinishesToFault, game_in_reader, Stops, unwritten, StopsWriting, games_before, position_at_stop, ProbesAtStop, has_played_move, reported_position, refused as refused_stop, IsLast as IsLastGame, AreShown, Feeds, IsRefused, ReadsByMarker, reading_by_marker, so_far}
 pub use Rattle.pgn_lexer.specs.Standing.{Standing, coming, waiting}
 pub use Rattle.pgn_lexer.specs.Stands.{AfterScan, FinishGivesToken, Follows, HasLeft, IsDecided, IsNext, StandsAfter, first, still, Scans}
 pub use Rattle.pgn_game.specs.steps.Readings.{AfterGameEnd, AllRead, BeginsAt, BothSoFar, ComesNext, FirstFails, GameRead, GameWritten, HasGiven, HasGivenIn, HasMarkers, HasMatched, ReadFails, Reading, ReadingStops, ReadsAllOf, ReadsToGameEnd, SecondFails, SourceGives, StandsBetween, Stores, WhyFirst, WhySecond, WritesGame, as_changed, changed_reason, known_by, model_marker, no_sink}
 pub use Rattle.pgn_game.specs.public.MostTried.{CostsIf, CostsToAdd, CostsToFind, CostsToWrite, MostFrom, MostTried, Raises, Tries, CostsUnlessRefused, is_sought, TriesUnwritten, added, is_written, none}
-pub use Rattle.pgn_game.specs.public.GamesCalls.{ahead_of, AfterNext, Games, HasReadAll, HaveRead, NextFault, NextGame, NextStops, NoGame, ReadSoFar, ReadsNext, ReadsNoGame, games_of, most_left, within}
+pub use Rattle.pgn_game.specs.public.GamesCalls.{ahead_of, AfterNext, Games, HasReadAll, HaveRead, NextFault, NextGame, NextStops, NoGame, ReadSoFar, ReadsNext, ReadsNoGame, games_of, most_left}
 pub use Rattle.pgn_game.specs.export.Due.{Gains, gain, text_next}
 pub use Rattle.pgn_game.specs.steps.ConverterSteps.{AllSoFar, FaultAtEnd, FeedsAllSoFar, GainsAs, IsBeforePiece, IsBeforeToken, IsGoing, OneGame, SameGames, announcing, due_as, part_after, letting_missing_result_take_marker}
 pub use Rattle.pgn_game.specs.public.Checked.{Comparison, PlacedMarker, checked_profile, compared, compared_from, earlier_fault, is_changed, is_other, marker_at, markers, markers_after, markers_from, torn_before, with_marker, written_by}

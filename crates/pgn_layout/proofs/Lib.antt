@@ -3,6 +3,6 @@ mod EscapedBytes
 mod LineRows
 mod LineTextRows
 mod LinesOfTokens
-mod OneWriteMore
-mod PutsInTurn
+pub mod OneWriteMore
+pub mod PutsInTurn
 mod TokensInText

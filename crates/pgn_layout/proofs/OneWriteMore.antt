@@ -1,5 +1,5 @@
 -- One write after another.
-use Rattle.pgn_layout.proofs.Words.{common_steps, ◌≡◌, ℕ, ◌+◌, ◌-◌, ◌<◌, List, [], ◌∷◌, ◌++◌, length, take, drop, Option, Result, Ok, Err, length-append, arith, take-add, take-append-add, take_rest, Appends, ended}
+use Rattle.pgn_layout.proofs.Words.{common_steps, ◌≡◌, ℕ, ◌+◌, ◌-◌, ◌<◌, List, [], ◌∷◌, ◌++◌, length, take, drop, Option, Result, Ok, Err, length-append, arith, take-add, take-append-add, take-append-le, take_rest, Appends, ended}
 use Rattle.std.proofs.KnownBytes.{Appends-trans}
 use Rattle.pgn_layout.specs.Device.{AppendsFront, Writes}
 
@@ -7,6 +7,10 @@ use Rattle.pgn_layout.specs.Device.{AppendsFront, Writes}
 pub appends_more : (a b c : Option (List ℕ)) (all : List ℕ) (i n : ℕ) → Appends a b (take i all)
     → Appends b c (take n (take (length all - i) (drop i all))) → Appends a c (take (i + n) all)
 appends_more a b c all i n done more = grind (arith, common_steps, take_rest, take-add)
+
+-- a front of a text is one of a longer text
+pub front_of_more : (a b : Option (List ℕ)) (text more : List ℕ) → AppendsFront a b text → AppendsFront a b (text ++ more)
+front_of_more a b text more front = grind (arith, common_steps, length-append, take-append-le)
 
 -- the whole of one text, and then a front of the next
 pub front_after : (a b c : Option (List ℕ)) (text more : List ℕ) → Appends a b text → AppendsFront b c more

@@ -7,11 +7,11 @@ abbrev laid : List ℕ → List ℕ → Laid
 laid written line = record { written = written; line = line }
 
 -- a line before the others is full, and not the last
-full_lines-cons : (l t : List ℕ) (ts : List (List ℕ)) → full_lines (l ∷ lines_from t ts) ≡ l ∷ full_lines (lines_from t ts)
+pub full_lines-cons : (l t : List ℕ) (ts : List (List ℕ)) → full_lines (l ∷ lines_from t ts) ≡ l ∷ full_lines (lines_from t ts)
 full_lines-cons l t [] = refl
 full_lines-cons l t (u ∷ us) = grind (arith, full_lines-cons l (t ++ 32 ∷ u) us)
 
-last_line-cons : (l t : List ℕ) (ts : List (List ℕ)) → last_line (l ∷ lines_from t ts) ≡ last_line (lines_from t ts)
+pub last_line-cons : (l t : List ℕ) (ts : List (List ℕ)) → last_line (l ∷ lines_from t ts) ≡ last_line (lines_from t ts)
 last_line-cons l t [] = refl
 last_line-cons l t (u ∷ us) = grind (arith, last_line-cons l (t ++ 32 ∷ u) us)
 

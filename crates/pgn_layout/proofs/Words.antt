@@ -9,7 +9,7 @@ pub use Rattle.std.proofs.Math.Seq.{take-suc, take-add, take-append-add}
 pub use Rattle.std.proofs.lemmas.Bool.{false≢true, le-leb, lt-leb}
 pub use Rattle.std.proofs.lemmas.Bool.Decides.{nat_tests}
 pub use Rattle.std.proofs.lemmas.Grind.{common_steps}
-pub use Rattle.std.proofs.lemmas.List.{take-append-drop, take_rest}
+pub use Rattle.std.proofs.lemmas.List.{take-append-drop, take-append-le, take_rest}
 pub use Rattle.std.proofs.lemmas.List.Elements.{All-cons, All-nil, All-head, All-tail}
 pub use Rattle.std.specs.Io.KnownBytes.{Appends}
 pub use Rattle.std.specs.Prelude.{◌↔◌, All, codes, replicate, IsTrue}

@@ -12,7 +12,7 @@ pub use Rattle.std.specs.Prelude.{Err, IfOk, Ok, OnOk, String, codes, ifâ—Œthenâ
 pub use Rattle.pgn_arguments.specs.declared.arguments.Task.TheVariants.{Export, Split}
 pub use Rattle.pgn_game.specs.public.CheckedConversion.{AreConverted, CountsThree, FirstStops, HasTaken, OneFails, SecondStops, TwoReadingsConvert, TwoReadingsFail, WriteStops, first_too_long, first_unread, second_too_long, second_unread, unwritten}
 pub use Rattle.pgn_game.specs.public.Conversion.{AfterConversion, CountsDevices, CountsResult, Decides, Fails, IsConverted, IsTokenPrefix}
-pub use Rattle.pgn_game.specs.public.ConverterCalls.{AreNext, FinishedGame, HasRead, Stops, StopsWriting, games_before, profile_of, AreShown, IsRefused, so_far, within_limit}
+pub use Rattle.pgn_game.specs.public.ConverterCalls.{AreNext, FinishedGame, HasRead, Stops, StopsWriting, games_before, profile_of, AreShown, IsRefused, within_limit}
 pub use Rattle.pgn_game.specs.laws.EqualReadings.{EqualReadings, InterruptedReadings}
 pub use Rattle.pgn_game.specs.games.FaultTable.{Row, first_holding, result_for, rows}
 unfoldable pub use Rattle.pgn_game.specs.games.FaultTable.{refusal}

@@ -4,5 +4,4 @@ pub mod CheckedConversionToFront
 pub mod CheckedConversionToRun
 pub mod ConversionToRun
 pub mod FileToRun
-pub mod PartsOfText
-pub mod TokensInTwoParts
+pub mod LineOfGame

@@ -1,6 +1,6 @@
 -- An export text is read as its games with their defaults filled in, so it is written again as it
 -- is.
-use Rattle.pgn_game.proofs.Words.{◌≡◌, ℕ, ◌+◌, ◌≤◌, ◌^◌, inl, inr, Bool, true, false, List, [], ◌∷◌, ◌++◌, length, map, refl, sym, ap, subst, ◌∙◌, arith, length-append, append-nil, Option, None, Some, sum, IfSome, Err, filter, Consumes, length-map, length-filter, count_by-le-length, IsLast, RisesTo, TokensRise, tokens_of, Kind, Token, Fault, Between, Game, Part, Mode, Pair, Profile, Progress, progress_after, read_from, output, verdict, refused as is_refused, totals, refusal, is_end, filled, AreExportable, SameText, counted, IsWrittenAgain, SliceIsKept, SourceIsKept, FixedPoint, ExportIsKept, ExportIsKeptOfSource, games_in, IsExportable, ExportingTwice, SameOutput, FewPairsHaveRoom, plies_of, roster, roster_pairs, with_set_up, exported, Spells, FailsOn, Fails, Totals, text_of_games as text_of, rules, Ok, common_steps}
+use Rattle.pgn_game.proofs.Words.{◌≡◌, ℕ, ◌+◌, ◌≤◌, ◌^◌, inl, inr, Bool, true, List, [], ◌∷◌, ◌++◌, length, map, refl, subst, arith, length-append, append-nil, Option, None, Some, sum, IfSome, Err, filter, Consumes, length-map, length-filter, count_by-le-length, IsLast, RisesTo, TokensRise, tokens_of, Kind, Token, Fault, Between, Game, Part, Mode, Pair, Profile, Progress, progress_after, read_from, output, verdict, refused as is_refused, totals, refusal, is_end, filled, AreExportable, SameText, counted, IsWrittenAgain, SliceIsKept, SourceIsKept, FixedPoint, ExportIsKept, ExportIsKeptOfSource, games_in, IsExportable, ExportingTwice, SameOutput, FewPairsHaveRoom, plies_of, roster, roster_pairs, with_set_up, exported, Spells, FailsOn, Fails, Totals, text_of_games as text_of, rules, common_steps}
 use Rattle.pgn_game.specs.public.Conversion as conversion
 use Rattle.pgn_game.proofs.exporting.ExportToGames.{ExportedGames}
 use Rattle.pgn_game.proofs.reading.PairsInTurn.{length-insert}
@@ -48,8 +48,7 @@ slice_fails : (p : Profile) (s : List ℕ) (gs : List Game) (f : Fault) (before 
     → verdict p s ≡ totals (counted gs) → length s ≤ 2 ^ 62 → FailsOn p s before after f → SliceIsKept p gs (Err f) before after
 slice_fails p s gs _ before after ver short (conversion.FailsOn.refused f in_time h) = absurd (no_fault p s gs f ver h.0)
 slice_fails p s gs _ before after ver short (conversion.FailsOn.unwritten tokens at shown stops) = refl
-slice_fails p s gs _ before after ver short (conversion.FailsOn.too_long u rest e long some none) =
-    absurd (let sum = ap length e in omega (arith, length-append u rest))
+slice_fails p s gs _ before after ver short (conversion.FailsOn.too_long u rest e long some none) = search (rules, length-append)
 
 some_text : (o : Option (List ℕ)) (s : List ℕ) (P : List ℕ → Type 0) → o ≡ Some s → IfSome o P → P s
 some_text o s P e h = let Q : Option (List ℕ) → Type 0 = λ x. IfSome x P in subst Q e h
@@ -60,8 +59,7 @@ consumed_fits o n s u e h = search (rules, length-append)
 source_fails : (p : Profile) (s : List ℕ) (gs : List Game) (f : Fault) (left_old left_new before after : Option (List ℕ))
     → verdict p s ≡ totals (counted gs) → length s ≤ 2 ^ 62
     → left_old ≡ Some s → Fails p left_old left_new before after f → SourceIsKept p gs (Err f) before after
-source_fails p s gs _ left_old left_new before after ver short left (conversion.Fails.refused f h) =
-    absurd (no_fault p s gs f ver (some_text _ s _ left h).1.0)
+source_fails p s gs _ left_old left_new before after ver short left (conversion.Fails.refused f h) = search (rules, no_fault, some_text)
 source_fails p s gs _ left_old left_new before after ver short left (conversion.Fails.unread u consumed few none) = inl refl
 source_fails p s gs _ left_old left_new before after ver short left (conversion.Fails.unwritten tokens at decided stops) = inr refl
 source_fails p s gs _ left_old left_new before after ver short left (conversion.Fails.too_long u rest consumed long some none) =
@@ -77,22 +75,14 @@ module _ (unique : UniqueReading) (rise : TokensRise)
   counted_again p gs h = search (rules, length-map)
 
   pub fixed_point : FixedPoint
-  fixed_point p gs h =
-      let e = exported_games p gs h in (
-        output_is unique rise p (text_of p gs) _ e.spells ∙ e.again,
-        verdict_is unique rise p (text_of p gs) (map _ gs) e.spells ∙ ap totals (counted_again p gs h),
-      )
+  fixed_point p gs h = search (rules, output_is, verdict_is, counted_again)
 
 -- Converting an export text.
 pub slice_is_kept : FixedPoint → ExportIsKept
-slice_is_kept fixed p gs (Ok t) before after h short done =
-    let f = fixed p gs h in written_again false p _ gs t before after f.0 f.1 done
-slice_is_kept fixed p gs (Err f) before after h short fails = slice_fails p _ gs f before after (fixed p gs h).1 short fails
+slice_is_kept fixed p gs h1 before after h short h2 = search (rules, written_again, slice_fails)
 
 pub source_is_kept : FixedPoint → ExportIsKeptOfSource
-source_is_kept fixed p gs (Ok t) left_old left_new before after h short left done = grind (arith, common_steps, written_again, some_text)
-source_is_kept fixed p gs (Err f) left_old left_new before after h short left fails =
-    source_fails p _ gs f _ _ before after (fixed p gs h).1 short left fails
+source_is_kept fixed p gs h1 left_old left_new before after h short left h2 = search (rules, written_again, some_text, source_fails)
 
 -- The same of inputs: each without a fault is the text of its games.
 module _ (unique : UniqueReading) (rise : TokensRise) where
@@ -109,10 +99,7 @@ module _ (unique : UniqueReading) (rise : TokensRise) where
   verdict_of_games p s h = verdict_is unique rise p s _ (spelled_in p s h)
 
   pub exporting_twice : FixedPoint → ExportingTwice
-  exporting_twice fixed p s h =
-      let again = fixed p _ (exportable p s h) in
-      let out = output_of p s h in
-      (ap (output p) out ∙ again.0 ∙ sym out, ap (verdict p) out ∙ again.1 ∙ sym (verdict_of_games p s h))
+  exporting_twice fixed p s h = search (rules, exportable, output_of, verdict_of_games)
 
   pub same_output : SameText → SameOutput
   same_output same p s t h k = search (rules, exportable, output_of)

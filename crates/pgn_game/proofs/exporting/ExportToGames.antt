@@ -141,8 +141,7 @@ module _ (laws : MoveLaws) (reads_fen : ReadingIsSpelling) (lines_keep : LinesOf
   module _ (sound : TokensAreSound) (read_back : KindsAreReadBack) where
     exportable_written : {p : Profile} {gs : List Game} → AreExportable p gs → WrittenGames p gs
     exportable_written h =
-        let is = sound h.source in
-        written_games h.spelled (All-map _ _ _ is.texts) is.comments h.room
+        let is = sound h.source in search (rules, written_games, All-map)
 
     pub text_spells : TextSpells
     text_spells p gs h =
@@ -155,10 +154,8 @@ module _ (laws : MoveLaws) (reads_fen : ReadingIsSpelling) (lines_keep : LinesOf
           comments = (rw w.pieces.kinds w.closes);
         } in
         let same =
-        ap (λ s. kinds (tokens_of s)) (sym w.pieces.text) ∙ read_back ps readable ∙ ap (λ ks. ks ++ tokens.end ∷ []) w.pieces.kinds in
-        rw same w.spells
+        ap (λ s. kinds (tokens_of s)) (sym w.pieces.text) ∙ read_back ps readable ∙ ap (λ ks. ks ++ tokens.end ∷ []) w.pieces.kinds in search rules
 
     pub exported_games : (p : Profile) (gs : List Game) → AreExportable p gs → ExportedGames p gs
     exported_games p gs h =
-        let w = exportable_written h in
-        record { spells = text_spells p gs h; again = w.again; plies = w.plies }
+        let w = exportable_written h in search (rules, text_spells)

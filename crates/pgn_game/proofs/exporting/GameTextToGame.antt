@@ -1,11 +1,11 @@
 -- The text of a game that sound tokens spelled: it spells the game with its defaults filled in, and
 -- that game has the same text.
-use Rattle.pgn_game.proofs.Words.{InOrder, ◌≡◌, ℕ, ◌≤◌, true, List, [], length, refl, sym, subst, arith, Option, None, Some, codes, not, unwrap_or, IsTrue, Ok, AllByRecursion, list_all, is_position, ReadingIsSpelling, starts_symbol, continues_symbol, begins_with, IsSymbol, IsData, Parts, Mode, Full, Reduced, Game, Pair, value_of, Profile, Missing, first_position, position_of, is_result, result_for, exported_pairs, TagSectionFits, start_of, KeepsTags, IsPair, by_name, IsResult, roster, roster_pairs, exported, Marker, WhiteWins, marker_text, rules}
+use Rattle.pgn_game.proofs.Words.{InOrder, ◌≡◌, ℕ, ◌≤◌, true, List, [], length, refl, sym, subst, arith, Option, codes, not, unwrap_or, IsTrue, Ok, AllByRecursion, list_all, is_position, ReadingIsSpelling, starts_symbol, continues_symbol, begins_with, IsSymbol, IsData, Parts, Mode, Game, Pair, value_of, Profile, Missing, first_position, position_of, is_result, result_for, exported_pairs, TagSectionFits, start_of, KeepsTags, IsPair, by_name, IsResult, roster, roster_pairs, exported, Marker, marker_text, rules}
 use Rattle.chess_rules.specs.Square.{squares}
 use Rattle.pgn_lexer.specs.Lexes.{is_barred}
 use Rattle.pgn_game.proofs.MarkerTexts.{result_marker}
 use Rattle.pgn_game.proofs.reading.PairsInTurn.{all-all}
-use Rattle.pgn_game.proofs.pairs.ExportedValues.{set_up, on_roster, all-exported}
+use Rattle.pgn_game.proofs.pairs.ExportedValues.{on_roster, all-exported}
 use Rattle.pgn_game.proofs.exporting.PairsExportedAgain.{keeps_exported, by_name_values, by_name_order}
 use Rattle.pgn_game.proofs.exporting.PiecesToTokens.{IsSoundPair}
 use Rattle.pgn_game.proofs.exporting.SpelledToSound.{SoundGame, marker_is_result}
@@ -25,8 +25,7 @@ pub exported_result : (mode : Mode) (missing : Missing) (m : List ℕ) (ps : Lis
 exported_result mode missing m ps is = grind (arith, same_result, roster_result)
 
 pub given_result : (missing : Missing) (o : Option (List ℕ)) {m : List ℕ} → IsResult missing o m → m ≡ unwrap_or o m
-given_result missing (Some v) is = is
-given_result missing None is = refl
+given_result missing o is = search rules
 
 -- Pairs that are exported are written as sound tokens.
 symbol_of : {text : List ℕ} → IsTrue (begins_with starts_symbol text)
@@ -37,8 +36,7 @@ data_of : {text : List ℕ} → IsTrue (list_all (λ b. not (is_barred b)) text)
 data_of bytes fits = record { bytes = bytes; fits = fits }
 
 marker_data : (m : Marker) → IsData (marker_text m)
-marker_data WhiteWins = data_of refl (omega arith)
-marker_data _ = data_of refl (omega arith)
+marker_data m = search (rules, data_of)
 
 unknown_pair : {name : List ℕ} → IsSymbol name → IsSoundPair (record { name = name; value = codes "?" })
 unknown_pair {name} is = record { name = is; value = data_of refl (omega arith) }
@@ -53,12 +51,11 @@ sound_roster m is =
 
 sound_exported : (mode : Mode) (m : List ℕ) (ps : List Pair) → is_result m ≡ true
     → AllByRecursion IsSoundPair ps → AllByRecursion IsSoundPair (exported mode m ps)
-sound_exported mode m ps is h = search (rules, set_up, all-exported, IsSoundPair, symbol_of, data_of, sound_roster)
+sound_exported mode m ps is h = search (rules, all-exported, symbol_of, data_of, sound_roster)
 
 pub some_exported : (mode : Mode) (m : List ℕ) (ps : List Pair) → exported mode m ps ≡ [] → ⊥
 unfolding roster
-some_exported Full m ps e = cc
-some_exported Reduced m ps e = cc
+some_exported mode m ps e = search rules
 
 first_is_position : IsTrue (is_position first_position)
 unfolding first_position squares
@@ -85,11 +82,4 @@ exported_of p g h room =
     let each = (rw (← h.sorted) at (all-all (IsPair _) [] h.given tt h.keeps.each)) in
     let sound = (rw (← h.sorted) at (all-all _ [] h.given tt h.sound_pairs)) in
     let is = marker_is_result h.last h.marker in
-    let keeps = keeps_exported p g.marker g.pairs is order each room in
-    record {
-      keeps = keeps;
-      sound = sound_exported p.mode g.marker g.pairs is sound;
-      order = order;
-      each = each;
-      same = λ n. by_name_values p n keeps;
-    }
+    let keeps = keeps_exported p g.marker g.pairs is order each room in search (rules, sound_exported, by_name_values)

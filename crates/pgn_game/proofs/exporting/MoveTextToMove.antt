@@ -24,8 +24,7 @@ last_position first [] h = h
 last_position first (m ∷ ms) h = h.0
 
 pub earlier_positions : (first : Parts) (trail : List Move) → ArePositions first trail → ArePositions first (without_last trail)
-earlier_positions first [] h = h
-earlier_positions first (m ∷ ms) h = h.1
+earlier_positions first trail h = search rules
 
 -- Bytes of a move's text.
 each_of : (f g : ℕ → Bool) (s : List ℕ) → ((c : ℕ) → f c ≡ true → g c ≡ true) → list_all f s ≡ true → list_all g s ≡ true
@@ -40,12 +39,10 @@ move_byte : (c : ℕ) → is_move_byte c ≡ true → continues_symbol c ≡ tru
 move_byte c = search (rules, continues)
 
 begins : (s : List ℕ) → IsTrue (begins_with_letter s) → IsTrue (begins_with starts_symbol s)
-begins [] e = absurd (false≢true e)
-begins (c ∷ s) e = rw e
+begins s e = search (rules, false≢true)
 
 as_symbol : {s : List ℕ} → IsMoveSymbol s → IsSymbol s
-as_symbol {s} h =
-    let fits = h.fits in record { begins = begins s h.begins; bytes = each_of is_move_byte _ s move_byte h.bytes; fits = omega arith }
+as_symbol {s} h = search (rules, begins, each_of, move_byte)
 
 no_score : (s : List ℕ) → IsMoveSymbol s → IsFalse (is_score s)
 no_score s h = (or_parts _ (bytes_eq s _) h.no_marker).0
@@ -62,9 +59,7 @@ number_shown b is_black n h = search (rules, next_shown, white, black)
 
 pub number_closes : (b is_black : Bool) (n : ℕ) (more : List Kind)
     → CommentsClose false more → CommentsClose false (number_kinds b is_black n ++ more)
-number_closes b false n more h = h
-number_closes false true n more h = h
-number_closes true true n more h = h
+number_closes b is_black n more h = search rules
 
 -- the laws that the text of a move rests on
 pub record MoveLaws : Type 0 where
@@ -98,13 +93,7 @@ module _ (laws : MoveLaws) where
 
   pub names_again : (at : Parts) (s : List ℕ) (x : Played) → IsTrue (is_position at) → Names at s x → Names at (text_of_move at x.mv) x
   names_again at s x h names =
-      let symbol = move_symbol at x names in
-      record {
-        no_number = symbol.no_number;
-        no_marker = no_score _ symbol;
-        one = reads_again at s x h names;
-        within = names.within;
-      }
+      let symbol = move_symbol at x names in search (rules, no_score, reads_again)
 
   number_is_symbol : (at : Parts) → IsTrue (is_position at) → IsSymbol (decimal at.full) × IsTrue (is_number (decimal at.full))
   number_is_symbol at h = let fits = full_fits at h in let small : at.full < 2 ^ 64 = omega arith in laws.numbers _ small

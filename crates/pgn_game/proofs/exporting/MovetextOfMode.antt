@@ -1,6 +1,6 @@
 -- The movetext that is written, of all items or of the moves outside variations: it spells the
 -- items that are kept, and these are written in the same way again.
-use Rattle.pgn_game.proofs.Words.{◌≡◌, ℕ, suc, ◌+◌, Bool, true, false, cond, List, [], ◌∷◌, ◌++◌, map, refl, ap, subst, ◌∙◌, arith, ◌==◌, filter, fold, IsTrue, AllByRecursion, ne_eqb, filter-append, fold-append, is_position, IsSoundKind, CommentsClose, Parts, Kind, Mode, Full, Reduced, Item, Profile, Level, Levels, levels_after, first_level, here, main_moves, outermost, without_last, SpellsText, no_more, token, move, variation, new_level, Placed, placed_from, is_main_move, written_items, tokens_from, tokens_out, rules}
+use Rattle.pgn_game.proofs.Words.{◌≡◌, ℕ, suc, ◌+◌, Bool, false, cond, List, [], ◌∷◌, ◌++◌, map, refl, ap, subst, ◌∙◌, arith, ◌==◌, filter, fold, IsTrue, AllByRecursion, ne_eqb, filter-append, fold-append, is_position, IsSoundKind, CommentsClose, Parts, Kind, Mode, Full, Reduced, Item, Profile, Level, Levels, levels_after, first_level, here, main_moves, outermost, without_last, SpellsText, no_more, token, move, variation, new_level, Placed, placed_from, is_main_move, written_items, tokens_from, tokens_out, rules}
 use Rattle.pgn_lexer.specs.Tokens as tokens
 use Rattle.pgn_game.specs.games.Game as game
 use Rattle.pgn_game.proofs.AllOfJoined.{all_behind}
@@ -61,9 +61,7 @@ main_same more e same r = search rules
 main : {p : Profile} {first : Parts} {deep : ℕ} {l : Level} {ks : List Kind} {items : List Item}
     → SpellsText p first deep l ks items → AllByRecursion IsSoundKind ks → Main p first deep l items
 main (no_more deep l) sound = record { kinds = []; spells = no_more deep l; sound = tt; closes = λ more h. h; placed = refl; levels = refl }
-main {first} (token deep l k ks item items stands rest) sound =
-    let same = aside items first (level_in l []) stands in
-    main_same items same.1 same.0 (main rest sound.1)
+main {first} (token deep l k ks item items stands rest) sound = search (rules, aside, level_in, main_same, (main rest sound.1))
 main {first} (move deep l s x ks items names rest) sound =
     let r = main rest sound.1 in
     let this : Placed = record { position = here first (level_in l []); depth = 0; item = game.move x.mv } in
@@ -90,8 +88,7 @@ kept_again : (x : Placed) (xs : List Placed) (b : Bool) → is_main_move x ≡ b
     → filter is_main_move (filter is_main_move xs) ≡ filter is_main_move xs
     → filter is_main_move (cond b (x ∷ filter is_main_move xs) (filter is_main_move xs))
     ≡ cond b (x ∷ filter is_main_move xs) (filter is_main_move xs)
-kept_again x xs true e rest = cc
-kept_again x xs false e rest = rest
+kept_again x xs b e rest = search rules
 
 filter_again : (xs : List Placed) → filter is_main_move (filter is_main_move xs) ≡ filter is_main_move xs
 filter_again [] = refl

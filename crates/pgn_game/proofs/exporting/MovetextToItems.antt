@@ -15,8 +15,7 @@ level_in l around = record { current = l; around = around }
 pub aside : {k : Kind} {item : List Item} (items : List Item) (first : Parts) (ls : Levels) → StandsFor k item
     → (fold levels_after ls (item ++ items) ≡ fold levels_after ls items)
     × (filter is_main_move (placed_from first ls (item ++ items)) ≡ filter is_main_move (placed_from first ls items))
-aside items first ls (number s is) = (refl, refl)
-aside items first ls _ = (refl, refl)
+aside items first ls h1 = search rules
 
 -- movetext closes the variations that it opens
 pub around_again : {p : Profile} {first : Parts} {deep : ℕ} {l : Level} {ks : List Kind} {items : List Item} → SpellsText p first deep l ks items
@@ -60,8 +59,7 @@ abbrev IsLeftOut : Kind → Type 0
 IsLeftOut k = (c : Bool) (more : List Kind) → CommentsClose c (k ∷ more) → CommentsClose c more
 
 no_comment : (k : Kind) → GoesOn k → is_comment k ≡ false → IsLeftOut k
-no_comment k on is c more h =
-    let none = plain k c more on is h in rw none.0 none.1
+no_comment k on is c more h = search (rules, plain)
 
 left_out : {p : Profile} {first : Parts} {deep : ℕ} {l : Level} {k : Kind} {ks : List Kind} {items : List Item} {ts : List (List ℕ)}
     → IsLeftOut k → Rewritten p first deep l ks items ts → Rewritten p first deep l (k ∷ ks) items ts
@@ -149,7 +147,7 @@ module _ (laws : MoveLaws) where
             (move deep l text x r.kinds items (names_again laws at s x here names) r.spells);
         shown = (rw (append_assoc _ _ ts) (number_shown b is_black at.full
             (next_shown _ _ text ts (single _) r.shown)));
-        writable = search (rules, All-append, IsWritable, number_kinds, number_writable, writable_move);
+        writable = search (rules, All-append, number_writable, writable_move);
         closes = closes r b is_black at.full text;
       }
     where
@@ -175,8 +173,7 @@ module _ (laws : MoveLaws) where
   rewritten (token deep l _ ks _ items (word s) rest) h sound around b = written_again (word s) sound.0 (rewritten rest h sound.1 around false)
   rewritten (token deep l _ ks _ items comment_close rest) h sound around b = written_again comment_close tt (rewritten rest h sound.1 around false)
   rewritten {p} {first} (move deep l s x ks items names rest) h sound around b =
-      move_again p l s x _ b names h
-      (rewritten rest (plays_on laws first _ s x names h) sound.1 around true)
+      search (rules, move_again, (rewritten rest (plays_on laws first _ s x names h) sound.1 around true))
   rewritten {p} {first} (variation deep l ks ls items more holds room inner rest) h sound around b =
       let sound_in = all_front IsSoundKind ks (tokens.right_paren ∷ ls) sound.1 in
       subst (Rewritten p first deep l _ _) (sym (tokens_of_variation deep l more inner around b))

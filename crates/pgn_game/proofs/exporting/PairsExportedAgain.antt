@@ -1,5 +1,5 @@
 -- Exported tag pairs are tag pairs of a game again, and exporting them again changes nothing.
-use Rattle.pgn_game.proofs.Words.{InOrder, ◌≡◌, ℕ, ◌+◌, ◌≤◌, Bool, true, false, cond, List, [], ◌∷◌, ◌++◌, length, map, refl, sym, ap, ◌∙◌, arith, Option, None, Some, inl, inr, not, bytes_eq, is_some, unwrap_or, codes, IsTrue, IsFalse, AllByRecursion, list_all, false≢true, cases_Bool, escaped, Mode, Full, Reduced, Profile, Pair, value_of, has_pair, roster, in_roster, roster_pairs, with_set_up, other_pairs, exported, in_name, is_result, start_of, IsPair, AreDistinct, KeepsTags, IsSetUp, by_name, rules, common_steps}
+use Rattle.pgn_game.proofs.Words.{InOrder, ◌≡◌, ℕ, ◌+◌, ◌≤◌, Bool, true, false, List, [], ◌∷◌, ◌++◌, length, map, refl, sym, ap, ◌∙◌, arith, Option, None, Some, inl, inr, not, bytes_eq, is_some, unwrap_or, codes, IsTrue, IsFalse, AllByRecursion, list_all, false≢true, cases_Bool, escaped, Mode, Full, Reduced, Profile, Pair, value_of, has_pair, roster, in_roster, roster_pairs, with_set_up, other_pairs, exported, in_name, is_result, start_of, IsPair, AreDistinct, KeepsTags, IsSetUp, by_name, rules}
 use Rattle.pgn_game.proofs.MarkerTexts.{marker_room, result_marker}
 use Rattle.pgn_game.proofs.reading.PairsInTurn.{takes, value_of-all, order-all}
 use Rattle.pgn_game.proofs.pairs.ExportedValues.{with_default, without_set_up, set_up, set_up_if, set_up_gone, set_up_values, no_fen, no_set_up, other_value, exported_known, exported_other, exported_none, no_set_up_of, on_roster, all-exported}
@@ -26,26 +26,17 @@ unfolding roster
 roster_again mode m ps fs same = grind (arith, exported_known, on_roster, same_default)
 
 pick_again : (b : Bool) (v : List ℕ) (o : Option (List ℕ)) → pick b v (pick b v o) ≡ pick b v o
-pick_again true v o = refl
-pick_again false v o = refl
+pick_again b v o = search rules
 
 module _ (m : List ℕ) (ps fs : List Pair) where
   fen_again : Same_values Full m ps fs → value_of fs (codes "FEN") ≡ value_of ps (codes "FEN")
   fen_again same = same _ ∙ exported_other m ps _ refl ∙ no_set_up ps _ refl
 
   set_up_again : (n : List ℕ) → Same_values Full m ps fs → in_roster n ≡ false → value_of (with_set_up fs) n ≡ value_of (with_set_up ps) n
-  set_up_again n same other =
-      grind (arith, common_steps, exported_other, set_up_values, pick_again, fen_again)
+  set_up_again n same other = search (rules, exported_other, set_up_values, pick_again, fen_again)
 
   others_again : InOrder ps → InOrder fs → Same_values Full m ps fs → other_pairs (with_set_up fs) ≡ other_pairs (with_set_up ps)
-  others_again h k same =
-      same_pairs _ _ (order_others fs k) (order_others ps h)
-      (λ n. other_value fs n ∙ by_roster n _ refl ∙ sym (other_value ps n))
-    where
-      by_roster : (n : List ℕ) (b : Bool) → in_roster n ≡ b
-          → cond (not b) (value_of (with_set_up fs) n) None ≡ cond (not b) (value_of (with_set_up ps) n) None
-      by_roster n true e = refl
-      by_roster n false e = set_up_again n same e
+  others_again h k same = search (rules, same_pairs, order_others, other_value, set_up_again)
 
 pub exported_again : (mode : Mode) (m : List ℕ) (ps fs : List Pair) → InOrder ps → InOrder fs → Same_values mode m ps fs
     → exported mode m fs ≡ exported mode m ps

@@ -1,5 +1,5 @@
 -- What is known of a game that a text spells: its tokens are sound, and its comments close.
-use Rattle.pgn_game.proofs.Words.{◌≡◌, ℕ, Bool, true, false, List, [], ◌∷◌, ◌++◌, refl, ap, append_assoc, Some, codes, AllByRecursion, list_all, All-append, and_parts, IsSoundKind, CommentsClose, written, is_comment, is_result, marker_of, Parts, Kind, Item, Game, Pair, value_of, Profile, Level, start_of, AreDropped, SpellsPair, pair, SpellsPairs, no_pair, next_pair, KeepsTags, by_name, IsSetUp, SpellsText, no_more, token, move, variation, StandsFor, number, new_level, BeginsBare, IsResult, SpellsGame, arith, rules, false≢true, common_steps}
+use Rattle.pgn_game.proofs.Words.{◌≡◌, ℕ, Bool, true, false, List, [], ◌∷◌, ◌++◌, refl, ap, append_assoc, Some, codes, AllByRecursion, list_all, All-append, and_parts, IsSoundKind, CommentsClose, written, is_comment, is_result, marker_of, Parts, Kind, Item, Game, Pair, value_of, Profile, Level, start_of, AreDropped, SpellsPair, pair, SpellsPairs, no_pair, next_pair, KeepsTags, by_name, IsSetUp, SpellsText, no_more, token, move, variation, StandsFor, new_level, BeginsBare, IsResult, SpellsGame, arith, rules, false≢true, common_steps}
 use Rattle.pgn_lexer.specs.Tokens as tokens
 use Rattle.pgn_game.proofs.AllOfJoined.{all_front, all_behind}
 use Rattle.pgn_game.proofs.refusals.RefusalsInMovetext.{score_of}
@@ -35,8 +35,7 @@ behind [] c ks on h = (c, h)
 behind (x ∷ xs) c ks on h = let next = around_token x c _ on.0 h in behind xs next.0 ks on.1 next.1
 
 comment_goes_on : (k : Kind) → is_comment k ≡ true → GoesOn k
-comment_goes_on (tokens.refused r) is = absurd (false≢true is)
-comment_goes_on _ is = tt
+comment_goes_on k is = search (rules, false≢true)
 
 dropped_go_on : (xs : List Kind) → AreDropped xs → AllByRecursion GoesOn xs
 dropped_go_on [] are = tt
@@ -60,8 +59,7 @@ behind_pairs ls no_pair h = h
 behind_pairs ls (next_pair ks js q qs first rest) h = behind_pairs ls rest (behind_pair false (js ++ ls) first (rw (append_assoc ks js ls) at h))
 
 item_goes_on : {k : Kind} {item : List Item} → StandsFor k item → GoesOn k
-item_goes_on (number s is) = tt
-item_goes_on _ = tt
+item_goes_on h1 = search rules
 
 text_goes_on : {p : Profile} {first : Parts} {deep : ℕ} {l : Level} {ks : List Kind} {items : List Item}
     → SpellsText p first deep l ks items → AllByRecursion GoesOn ks

@@ -1,7 +1,7 @@
 -- A token that is left behind the last piece, and what `finish` promises.
 use Rattle.pgn_lexer.specs.Scanned.{token}
 use Rattle.pgn_lexer.specs.Stands.{Finishes as FinishesLexer}
-use Rattle.pgn_game.proofs.Words.{cases_order, coming, false≢true, inl, inr, lt-ltb, ltb-true, nat_lt, read, arith, ◌≤◌, ◌*◌, ◌^◌, waiting, Keeps, IsSound, common_steps, IsLastGame as IsLast, game_in_reader_if, ◌&&◌, Between, part_after, fault, ◌≡◌, ℕ, ◌+◌, ◌<◌, ◌↔◌, Bool, true, false, IsTrue, List, [], ◌∷◌, ◌++◌, length, Option, None, Some, Result, Ok, Err, refl, sym, ap, subst, ◌∙◌, Token, Game, Profile, Fault, LexFault, Lexical, Reason, Device, Converter, GameState, Standing, Stands, tokens_of, is_end, More, TakesToken, AfterFinish, Finishes, FinishesToFault, FinishedGame, game_in_reader, SameGames}
+use Rattle.pgn_game.proofs.Words.{cases_order, coming, false≢true, lt-ltb, ltb-true, nat_lt, read, arith, ◌≤◌, ◌*◌, ◌^◌, waiting, Keeps, IsSound, common_steps, IsLastGame as IsLast, game_in_reader_if, ◌&&◌, Between, part_after, fault, ◌≡◌, ℕ, ◌+◌, ◌<◌, ◌↔◌, Bool, true, false, IsTrue, List, [], ◌∷◌, ◌++◌, length, Option, None, Some, Result, Ok, Err, refl, sym, ap, subst, ◌∙◌, Token, Game, Profile, Fault, LexFault, Lexical, Reason, Device, Converter, GameState, Standing, Stands, tokens_of, is_end, More, TakesToken, AfterFinish, Finishes, FinishesToFault, FinishedGame, SameGames, rules}
 use Rattle.pgn_game.specs.steps.TokenTaken.{FinishesPlaced, TakesPlaced}
 use Rattle.pgn_game.specs.steps.Flow.{Known, At, EndsGames, FinishesLeft, GoesAtEnd, ReadsOn, Start, StopsAt, ended, so_far, steps_until}
 use Rattle.pgn_game.proofs.stepping.AcceptedToConverter.{has_read_more, now_at, read_as, same_games}
@@ -16,25 +16,11 @@ use Rattle.pgn_game.proofs.flow.Takes.{closes, finished_at, stops, stops_lexical
 -- the game just finished stays so while no game is begun
 with_last : (start : Start) (text : Known) (c : Converter) (tokens : List Token) (o : Option (List ℕ)) (last : Option FinishedGame) → At start text c tokens o
     → IsLast last (read start.profile tokens).progress.games → At start text (record c { just_finished = last }) tokens o
-with_last start text c tokens o last here is =
-    record {
-      since = record {
-        more = here.since.more;
-        extends = here.since.extends;
-        has_read = read_as here.since.has_read refl refl here.since.has_read.no_fault is;
-        known = here.since.known;
-        gains = here.since.gains;
-      };
-      lexer = here.lexer;
-      decided = here.decided;
-      over = here.over;
-    }
+with_last start text c tokens o last here is = search (rules, read_as)
 
 still_last : (games : List Game) (old new : GameState) (has between : Bool) → IsLast (game_in_reader_if has old) games → (between ≡ true → new ≡ old)
     → IsLast (game_in_reader_if (has && between) new) games
-still_last games old new false between last same = tt
-still_last games old new true false last same = tt
-still_last games old new true true last same = rw (same refl) last
+still_last games old new has between last same = search (rules, between)
 
 -- A converter behind the last piece, and the token that the lexer gives.
 module _ (lexer l : Standing) (reading new : GameState) (games : ℕ) (has : Bool) (t : Token) (gives : FinishesLexer lexer l (token t)) (d : Device) where
@@ -49,20 +35,11 @@ module _ (lexer l : Standing) (reading new : GameState) (games : ℕ) (has : Boo
     no_more : (start : Start) (s : List ℕ) (tokens : List Token) → At start (ended s) old tokens d.before → SameGames start.profile tokens (tokens ++ t ∷ [])
     no_more start s tokens here =
         let has_read = here.since.has_read in
-        let h = takes.accepts (part_after start.profile tokens) has_read.agrees in
-        same_games start.profile old tokens t l new false has_read takes.keeps.profile takes.keeps.probes takes.keeps.writing h.free h.leads
+        let h = takes.accepts (part_after start.profile tokens) has_read.agrees in search (rules, same_games)
 
     -- the end is accepted only between games
     between_at_end : (start : Start) (s : List ℕ) (tokens : List Token) → At start (ended s) old tokens d.before → is_end t.kind ≡ true → new.stage ≡ Between
-    between_at_end start s tokens here is =
-        let p = start.profile in
-        let has_read = here.since.has_read in
-        let h = takes.accepts (part_after p tokens) has_read.agrees in
-        let keeps = takes.keeps in
-        let more = has_read_more p old tokens t l new true has_read keeps.profile keeps.probes keeps.writing h.free h.leads h.plies h.tried in
-        let passes = rw has_read.profile at h.free in
-        let at_stage = end_passes p (read p tokens).progress t.kind is passes in
-        cc (more.agrees.stage, read-passes p tokens t has_read.passes passes, at_stage)
+    between_at_end start s tokens here is = search (rules, has_read_more, end_passes, read-passes)
 
     reads_at : (e : Bool) → is_end t.kind ≡ e → (start : Start) (s : List ℕ) (tokens : List Token) → At start (ended s) old tokens d.before
         → At start (ended s) (now_at l new games e) (tokens ++ t ∷ []) d.after
@@ -88,8 +65,7 @@ module _ (lexer l : Standing) (reading new : GameState) (games : ℕ) (has : Boo
   left_stop : (reason : Reason) → TakesPlaced reading t.kind t.at new (Err reason) d → (now : Converter) → now.reading ≡ new → now.games ≡ games
       → ReadsOn old None now (Err (record { at = t.at; reason = reason })) d
   left_stop reason takes now is same start (so_far s) tokens ahead here = absurd ahead
-  left_stop reason takes now is same start (ended s) tokens ahead here =
-      stops start (ended s) old tokens t l new d here.since reason takes (tokens_left s tokens (is_end t.kind) l t (left_now s tokens here.lexer)) now is same
+  left_stop reason takes now is same start (ended s) tokens ahead here = search (rules, stops, tokens_left, left_now)
 
 -- the same of fields that are known to be so
 module _ (lexer l : Standing) (reading new : GameState) (games : ℕ) (has over : Bool) (fault : Option Fault) (going : over ≡ false) (none : fault ≡ None)
@@ -121,19 +97,16 @@ lets_go c o n start text tokens ahead here = (tokens, with_last start text c tok
 -- a call that reads on, and one behind it
 pub ends_then : (first mid new : Converter) (result : Result Bool Fault) (a b c : Option (List ℕ))
     → ReadsOn first None mid (Ok false) (between a b 0 0) → ReadsOn mid None new result (between b c 0 0) → ReadsOn first None new result (between a c 0 0)
-ends_then first mid new result a b c one two start (ended s) tokens ahead here = let there = one start (ended s) tokens ahead here in two start (ended s) there.0 ahead there.1
-ends_then first mid new result a b c one two start (so_far s) tokens ahead here = absurd ahead
+ends_then first mid new result a b c one two start h1 tokens ahead here = search rules
 
 -- after a game was finished reading goes on as after any token
 pub goes_on : (first new : Converter) (a c : Option (List ℕ)) (finished : Bool) → ReadsOn first None new (Ok finished) (between a c 0 0) → ReadsOn first None new (Ok false) (between a c 0 0)
-goes_on first new a c true reads start text tokens ahead here = let there = reads start text tokens ahead here in (there.0, there.1)
-goes_on first new a c false reads start text tokens ahead here = reads start text tokens ahead here
+goes_on first new a c finished reads start text tokens ahead here = search rules
 
 -- ---- how many steps are left
 
 pub nearer_end : (old new : Standing) (e : Bool) → Nearer e old new → steps_until e (waiting new) < steps_until false (waiting old)
-nearer_end old new true near = omega (arith, ap waiting near)
-nearer_end old new false near = omega (arith, near.0)
+nearer_end old new e near = search rules
 
 -- ---- the game just finished
 
@@ -147,43 +120,19 @@ pub holds_none : (now : Converter) → now.just_finished ≡ None → Holds now.
 holds_none now none = record { no_fewer = omega arith; none_else = λ same. none; held = λ more. absurd (omega (arith, more)) }
 
 pub holds_on : (first : ℕ) (mid new : Converter) (finished : Bool) (sink : Device) → Holds first mid → GoesAtEnd mid new (Ok finished) sink → Holds first new
-holds_on first mid new true sink holds goes =
-    record {
-      no_fewer = omega (arith, holds.no_fewer, goes.games);
-      none_else = λ same. absurd (omega (arith, holds.no_fewer, goes.games, same));
-      held = λ more between. (game_in_reader new.reading, goes.kept);
-    }
-holds_on first mid new false sink holds goes =
-    record {
-      no_fewer = omega (arith, holds.no_fewer, goes.games);
-      none_else = λ same. goes.kept.0 (holds.none_else (omega (arith, goes.games, same)));
-      held = λ more between.
-          let kept = goes.kept.1 between in
-          let before = holds.held (omega (arith, goes.games, more)) kept.0 in
-          (before.0, kept.1 ∙ before.1);
-    }
+holds_on first mid new finished sink holds goes = search rules
 
 -- whether a game was finished since
 pub ended_games : (old new : Converter) → Holds old.games new → (finished_game : Bool) → finished_game ≡ nat_lt old.games new.games → EndsGames false old new (Ok finished_game)
-ended_games old new holds true is = (ltb-true old.games new.games (sym is), λ between. holds.held (ltb-true old.games new.games (sym is)) between)
-ended_games old new holds false is =
-    let same : new.games ≡ old.games = elim (cases_order old.games new.games) [
-      | inl same ↦ sym same
-      | inr (inl less) ↦ absurd (false≢true (is ∙ lt-ltb old.games new.games less))
-      | inr (inr more) ↦ absurd (omega (arith, more, holds.no_fewer))
-    ] in
-    (same, holds.none_else same)
+ended_games old new holds finished_game is = search (rules, ltb-true, cases_order, false≢true, lt-ltb)
 
 -- A call that stops, or that no game ends: if a game would end it, none was finished.
 pub stopped_games : (to_game : Bool) (old new : Converter) (f : Fault) → (to_game ≡ true → new.games ≡ old.games) → new.just_finished ≡ None → EndsGames to_game old new (Err f)
-stopped_games true old new f same none = omega (arith, same refl)
-stopped_games false old new f same none = none
+stopped_games to_game old new f same none = search rules
 
 pub all_left : (to_game : Bool) (old new : Converter) → Holds old.games new → (to_game ≡ true → new.games ≡ old.games) → (finished_game : Bool)
     → finished_game ≡ nat_lt old.games new.games → EndsGames to_game old new (Ok finished_game) × ((to_game && finished_game) ≡ false)
-all_left false old new holds same finished_game is = (ended_games old new holds finished_game is, refl)
-all_left true old new holds same false is = (omega (arith, same refl), refl)
-all_left true old new holds same true is = absurd (omega (arith, same refl, ltb-true old.games new.games (sym is)))
+all_left to_game old new holds same finished_game is = search (rules, ended_games, ltb-true)
 
 -- ---- what `finish` promises
 
@@ -193,12 +142,7 @@ module _ (p : Profile) (u : List ℕ) (b : Option ℕ) (given : List Token) (old
   start = record { profile = p; count = length u; given = given; before = a; expected = None }
 
   pub begins : At start (ended u) old given a
-  begins = record {
-    since = since_start start old stands.has_read stands.known;
-    lexer = rw going (left_of old.lexer u b given stands.lexer);
-    decided = tt;
-    over = λ is. absurd (false≢true (sym going ∙ is));
-  }
+  begins = search (rules, since_start, left_of, false≢true)
 
   pub fails : (f : Fault) (new : Converter) (c : Option (List ℕ)) → IsStopShown new.reading.writing.is_silent a f.reason
       → StopsAt start (ended u) f new c → FinishesToFault p u given new f a c
@@ -239,31 +183,19 @@ module _ (p : Profile) (u : List ℕ) (b : Option ℕ) (given : List Token) (old
       → ((f : Fault) → result ≡ Err f → IsStopShown new.reading.writing.is_silent a f.reason) → FinishesLeft false old new result (between a c x y)
       → AfterFinish p u given new result a c
   after_finish (Ok finished_game) new c x y shown stop_shown left =
-      let there = left.reads start (ended u) given tt begins in
-      by_games new there.0 c there.1 shown left.finished finished_game left.games
+      let there = left.reads start (ended u) given tt begins in search (rules, by_games)
   after_finish (Err f) new c x y shown stop_shown left = fails f new c (stop_shown f refl) (left.reads start (ended u) given tt begins)
 
 -- ---- what a step keeps
 
 both : (a b : Bool) → IsTrue (a && b) → IsTrue b
-both true b h = h
-both false b h = absurd (cc)
+both a b h = search rules
 
 -- a game just finished stays so while no game is begun
 pub kept_or_none : (before after : GameState) (has between : Bool) → (after.stage ≡ Between → after ≡ before) → (after.stage ≡ Between → IsTrue between)
     → (game_in_reader_if has before ≡ None → game_in_reader_if (has && between) after ≡ None)
     × (after.stage ≡ Between → (before.stage ≡ Between) × (game_in_reader_if (has && between) after ≡ game_in_reader_if has before))
-kept_or_none before after has true stays is = (kept_none has, λ at. (ap (λ (r : GameState). r.stage) (sym (stays at)) ∙ at, kept_if has (stays at)))
-  where
-    kept_none : (has : Bool) → game_in_reader_if has before ≡ None → game_in_reader_if (has && true) after ≡ None
-    kept_none true h = absurd (cc)
-    kept_none false h = refl
-
-    kept_if : (has : Bool) → after ≡ before → game_in_reader_if (has && true) after ≡ game_in_reader_if has before
-    kept_if true same = rw same refl
-    kept_if false same = refl
-kept_or_none before after true false stays is = (λ h. refl, λ at. absurd (false≢true (is at)))
-kept_or_none before after false false stays is = (λ h. refl, λ at. absurd (false≢true (is at)))
+kept_or_none before after has between stays is = search (rules, false≢true)
 
 -- ---- how small the counts stay
 
@@ -276,7 +208,4 @@ module _ (old new : Standing) (before after : GameState) (games : ℕ) where
   pub sound_on : (e has between : Bool) {fault : Option Fault} → Nearer e old new → old.count ≤ 2 ^ 62 → games + waiting old ≤ 2 * old.count + 2
       → before.earlier_plies + before.text.plies + waiting old ≤ 2 * old.count + 2 → Keeps before after → (IsTrue between → after.stage ≡ Between) → fault ≡ None
       → IsSound new after games (has && between) e fault
-  sound_on true has between near count few plies keeps at none =
-      sound_finished new after games (sound_at_end old new before after games near count few plies keeps) (λ is. at (both has between is)) none
-  sound_on false has between near count few plies keeps at none =
-      sound_finished new after games (sound_behind old new before after games near count few plies keeps) (λ is. at (both has between is)) none
+  sound_on e has between near count few plies keeps at none = search (rules, sound_finished, sound_at_end, both, sound_behind)

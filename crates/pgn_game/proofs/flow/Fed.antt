@@ -1,5 +1,5 @@
 -- What `feed` promises of a piece that ends before place 2^62.
-use Rattle.pgn_game.proofs.Words.{drop-append-add, false, false≢true, ◌≡◌, ℕ, ◌+◌, ◌≤◌, ◌<◌, ◌^◌, inl, inr, List, [], ◌∷◌, ◌++◌, length, take, drop, Option, None, Some, refl, sym, ap, subst, ◌∙◌, arith, append-nil, length-append, length-take, take-append-add, drop_of_length-le, take_all, Token, Game, Profile, Fault, Converter, Stands, Standing, StandsAfter, Follows, IsDecided, first, AreNext, FedAll, FedGame, FedToFault, read}
+use Rattle.pgn_game.proofs.Words.{drop-append-add, false, false≢true, ◌≡◌, ℕ, ◌+◌, ◌≤◌, ◌<◌, ◌^◌, inl, inr, List, [], ◌∷◌, ◌++◌, length, take, drop, Option, None, Some, refl, sym, ap, subst, ◌∙◌, arith, append-nil, length-append, length-take, take-append-add, drop_of_length-le, take_all, Token, Profile, Fault, Converter, Stands, Standing, StandsAfter, Follows, IsDecided, first, AreNext, FedAll, FedGame, FedToFault, read, rules}
 use Rattle.pgn_game.specs.steps.Flow.{At, Closes, Start, StopsAt, so_far}
 use Rattle.pgn_game.proofs.flow.GamesGoOn.{same_if_as_many}
 use Rattle.pgn_game.proofs.flow.Stops.{IsShown, IsStopShown, fed_to_fault, gains_shown, same_since}
@@ -31,16 +31,7 @@ module _ (p : Profile) (u : List ℕ) (b : Option ℕ) (given : List Token) (old
   piece_left = ap (λ n. drop n (u ++ piece)) (omega arith) ∙ left_there 0
 
   pub begins : At start (so_far (u ++ piece)) old given a
-  begins = record {
-    since = since_start start old stands.has_read stands.known;
-    lexer = (
-      omega (arith, stands.lexer.count, length-append u piece),
-      subst (λ n. StandsAfter old.lexer (take n (u ++ piece)) (first (drop n (u ++ piece))) given) (sym stands.lexer.count)
-          (rw (all_there, piece_left) (before_piece b piece some follows stands.lexer)),
-    );
-    decided = inr (stands.lexer.count, refl);
-    over = λ is. absurd (false≢true (sym going ∙ is));
-  }
+  begins = search (rules, since_start, length-append, all_there, piece_left, before_piece, false≢true)
 
   pub is_ahead : drop old.lexer.count (u ++ piece) ≡ piece
   is_ahead = rw stands.lexer.count piece_left
@@ -67,10 +58,7 @@ module _ (p : Profile) (u : List ℕ) (b : Option ℕ) (given : List Token) (old
         record {
           tokens = tokens;
           stands = rw (still_none b piece some) (rw (all, end) at stands_now);
-          decided = λ h. elim at.decided [
-            | inl is ↦ decided_at_end (u ++ piece) tokens (rw (there, behind, all, end) at is)
-            | inr none ↦ absurd (omega (arith, none.0, count, whole, some))
-          ];
+          decided = search (rules, decided_at_end, there, behind);
           empty = λ h. absurd (omega (arith, h, some));
           no_game = same_since start new tokens c at.since (same ∙ stands.has_read.games);
           none_just_finished = none;
@@ -86,8 +74,7 @@ module _ (p : Profile) (u : List ℕ) (b : Option ℕ) (given : List Token) (old
     fed_game short one ends =
         let front = given ++ ends.more in
         let ts = front ++ ends.marker ∷ [] in
-        let size : length (read p tokens).progress.games ≡ length (read p front).progress.games + 1 =
-        ap (length {A = Game}) ends.one_game ∙ length-append (read p front).progress.games (ends.game ∷ []) in
+        let size : length (read p tokens).progress.games ≡ length (read p front).progress.games + 1 = search (rules, length-append) in
         let same = same_if_as_many p given ends.more (omega (arith, size, one, stands.has_read.games, at.since.has_read.games)) in
         let is_now = is_decided (λ is. absurd (omega (arith, one, stands.has_read.games, at.since.has_read.games, ap (λ l. length (read p l).progress.games) is))) in
         record {
@@ -95,9 +82,7 @@ module _ (p : Profile) (u : List ℕ) (b : Option ℕ) (given : List Token) (old
           marker = ends.marker;
           game = ends.game;
           stands = rw ends.cut at stands_now;
-          at_limit = λ h. decided_at_end (u ++ take used piece) ts (subst (λ xs. IsDecided (u ++ take used piece) xs ts)
-              (drop_of_length-le piece (omega (arith, h, short, length-append u piece, length-append u (take used piece), length-take used piece)))
-              (rw ends.cut at is_now));
+          at_limit = search (rules, decided_at_end, drop_of_length-le, length-append, length-take);
           decided = rw ends.cut at is_now;
           next = rw (all_within (u ++ piece) short) (rw ends.cut at all_next);
           ends = rw count at ends.ends;

@@ -2,7 +2,7 @@
 use Rattle.pgn_game.specs.declared.converter.Fed.{Fed}
 use Rattle.pgn_game.specs.declared.converter.Fed.TheVariants.{All, Game as GameEnd}
 use Rattle.std.proofs.Common.{length-take-le}
-use Rattle.pgn_game.proofs.Words.{◌≡◌, ℕ, ◌+◌, ◌-◌, ◌≤◌, ◌<◌, ◌^◌, inl, inr, true, false, List, [], ◌∷◌, ◌++◌, length, take, drop, Option, None, Result, Ok, Err, refl, sym, ap, subst, ◌∙◌, arith, append-nil, length-append, length-drop, length-take, take_all, take-append-drop, take-take, drop-take, Token, Profile, Fault, InputTooLong, Converter, Stands, Follows, decided, within_limit, FedAll, FedGame, at_token, too_long}
+use Rattle.pgn_game.proofs.Words.{◌≡◌, ℕ, ◌+◌, ◌-◌, ◌≤◌, ◌<◌, ◌^◌, inl, inr, true, false, List, [], ◌∷◌, ◌++◌, length, take, drop, Option, None, Result, Ok, Err, refl, sym, ap, subst, ◌∙◌, arith, append-nil, length-append, length-drop, length-take, take_all, take-append-drop, take-take, drop-take, Token, Profile, Fault, InputTooLong, Converter, Stands, Follows, decided, within_limit, FedAll, FedGame, at_token, too_long, rules}
 use Rattle.pgn_game.specs.public.ConverterCalls.{AfterFeed}
 use Rattle.pgn_game.specs.steps.Flow.{At, FeedsPiece, Reached, ReachedWithin, ReadsNothing, Start, StopsAt, so_far}
 use Rattle.pgn_game.proofs.stepping.BytesWithinLimit.{all_within, front_within}
@@ -21,15 +21,7 @@ stands_on {p} {old} {given = given} stands = record { known = stands.known; lexe
 -- no byte was fed
 fed_none : {p : Profile} {old : Converter} {u : List ℕ} {b : Option ℕ} {given : List Token} (o : Option (List ℕ)) → Stands p old u b given
     → FedAll p u b given [] (record old { just_finished = None }) o o
-fed_none {u = u} {given = given} o stands = record {
-  tokens = given;
-  stands = rw (append-nil u) (stands_on stands);
-  decided = λ some. absurd (omega (arith, some));
-  empty = λ none. refl;
-  no_game = refl;
-  none_just_finished = refl;
-  gains = gains_none;
-}
+fed_none {u = u} {given = given} o stands = search (rules, append-nil, stands_on, gains_none)
 
 module _ (p : Profile) (u : List ℕ) (b : Option ℕ) (given : List Token) (old new : Converter) (piece : List ℕ) (n : ℕ) (a c : Option (List ℕ)) (x y : ℕ)
     (stands : Stands p old u b given) (going : old.is_finished ≡ false) (follows : Follows b piece) (place : length u + n ≡ 2 ^ 62) where
@@ -69,8 +61,7 @@ module _ (p : Profile) (u : List ℕ) (b : Option ℕ) (given : List Token) (old
 
     read_all : (now : Converter) (tokens : List Token) → At begin (so_far (u ++ front)) now tokens c → IsShown now.reading.writing.is_silent a
         → now.lexer.count ≡ length u + length front → now.just_finished ≡ None → now.games ≡ old.games → FedAll p u b given front now a c
-    read_all now tokens at shown count none same =
-        fed_all p u b given old front a stands going from some now tokens c at shown (length front) count refl none same
+    read_all now tokens at shown count none same = search (rules, fed_all, from)
 
     stopped : (f : Fault) → new.games ≡ old.games → IsStopShown new.reading.writing.is_silent a f.reason → StopsAt begin (so_far (u ++ front)) f new c
         → AfterFeed p u b given piece new (Err f) a c

@@ -1,6 +1,6 @@
 -- What is read of a piece: white space, a token, or what the lexer rejects.
 use Rattle.pgn_lexer.specs.Scanned.{Scanned, token}
-use Rattle.pgn_game.proofs.Words.{false≢true, ◌≡◌, ℕ, ◌+◌, ◌<◌, ◌≤◌, inl, List, [], ◌∷◌, ◌++◌, length, take, drop, Option, None, Some, refl, sym, ap, subst, ◌∙◌, arith, take-add, drop-drop, length-drop, length-append, take-append_seam, Token, Standing, Converter, GameState, AfterScan, StandsAfter, first, more, fault, LexFault, decided, Ok, Err, true, Device, Reason, More, TakesToken, Lexical, Follows, Scans, append-nil, false, AreNext, tokens_of, take-append-drop}
+use Rattle.pgn_game.proofs.Words.{false≢true, ◌≡◌, ℕ, ◌+◌, ◌<◌, ◌≤◌, inl, List, [], ◌∷◌, ◌++◌, length, take, drop, Option, None, Some, sym, ap, subst, ◌∙◌, arith, take-add, drop-drop, length-drop, length-append, take-append_seam, Token, Standing, Converter, GameState, AfterScan, StandsAfter, first, more, fault, LexFault, decided, Ok, Err, true, Device, Reason, More, TakesToken, Lexical, Follows, Scans, append-nil, false, AreNext, tokens_of, take-append-drop, rules}
 use Rattle.pgn_lexer.specs.PartialToken.{refusal as refusal_token}
 use Rattle.pgn_game.specs.steps.TokenTaken.{FinishesPlaced, TakesPlaced}
 use Rattle.pgn_game.specs.steps.Flow.{At, AreAllDecided, HasGivenOf, ReadsOn, ended, so_far, Start}
@@ -23,9 +23,7 @@ module _ (s piece : List ℕ) (at : ℕ) (ahead : drop at s ≡ piece) (within :
   whole = ap (λ xs. take at s ++ xs) (sym ahead) ∙ take-append-drop at s
 
 follows_start : (front rest : List ℕ) → Follows (first (front ++ rest)) front
-follows_start [] [] = tt
-follows_start [] (x ∷ rest) = tt
-follows_start (x ∷ front) rest = refl
+follows_start front rest = search rules
 
 -- A converter that stands in the text, before a piece of it.
 module _ (start : Start) (s piece : List ℕ) (old : Converter) (given : List Token) (a : Option (List ℕ))
@@ -77,13 +75,7 @@ module _ (start : Start) (s piece : List ℕ) (old : Converter) (given : List To
     pub goes_on : At start (so_far s) (now_at l old.reading old.games false) given a
     goes_on =
         record {
-          since = record {
-            more = here.since.more;
-            extends = here.since.extends;
-            has_read = read_at start.profile old given l false here.since.has_read;
-            known = here.since.known;
-            gains = here.since.gains;
-          };
+          since = search (rules, read_at);
           lexer = (short l used scans.count inside_front, rw up_to (before_any stands));
           decided = inl (inl (scan.2 some ∙ ap decided (sym up_to)));
           over = λ is. absurd (false≢true is);
@@ -113,8 +105,7 @@ module _ (old : Converter) (piece : List ℕ) where
     -- the lexer rejects the text
     pub reads_fault : 0 < length piece → (f : LexFault) → Scans old.lexer piece l used (fault f) → (now : Converter) → now.reading ≡ old.reading → now.games ≡ old.games
         → (o : Option (List ℕ)) (n : ℕ) → ReadsOn old (Some piece) now (Err (record { at = f.at; reason = Lexical f.reason })) (between o o n n)
-    reads_fault some f scans now is same o n start (so_far s) tokens ahead here =
-        stops_lexical start (so_far s) old tokens o here.since f (refused_next start s piece old tokens o here ahead f some scans) now is same
+    reads_fault some f scans now is same o n start (so_far s) tokens ahead here = search (rules, stops_lexical, refused_next)
     reads_fault some f scans now is same o n start (ended s) tokens ahead here = absurd ahead
 
     module _ (t : Token) (scans : Scans old.lexer piece l used (token t)) (new : GameState) (d : Device) where
@@ -139,7 +130,5 @@ module _ (old : Converter) (piece : List ℕ) where
 
       pub reads_stop : (reason : Reason) → TakesPlaced old.reading t.kind t.at new (Err reason) d → (now : Converter) → now.reading ≡ new → now.games ≡ old.games
           → ReadsOn old (Some piece) now (Err (record { at = t.at; reason = reason })) d
-      reads_stop reason takes now is same start (so_far s) tokens ahead here =
-          stops start (so_far s) old tokens t l new d here.since reason takes
-          (comes_next start s piece old tokens d.before here ahead l used scans.count inside t scans) now is same
+      reads_stop reason takes now is same start (so_far s) tokens ahead here = search (rules, stops, comes_next)
       reads_stop reason takes now is same start (ended s) tokens ahead here = absurd ahead

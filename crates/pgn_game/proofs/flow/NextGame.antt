@@ -1,12 +1,11 @@
 -- The bytes of a source, read up to the end of its next game.
 use Rattle.pgn_game.specs.declared.converter.Fed.TheVariants.{All, Game as GameEnd}
-use Rattle.pgn_game.proofs.Words.{◌≡◌, ℕ, ◌+◌, ◌-◌, ◌^◌, ◌<◌, ◌≤◌, Bool, true, false, inl, inr, zero, suc, List, [], ◌∷◌, ◌++◌, length, take, drop, Option, None, Some, Result, Ok, Err, refl, sym, ap, subst, ◌∙◌, arith, append-nil, append_assoc, length-append, length-drop, length-take, take_all, take-append-drop, take-append_seam, drop-append_seam, drop-length, false≢true, Token, Fault, Game, Profile, ReadFault, InputTooLong, Consumes, Consumes-nil, Consumes-trans, IsAtEnd, tokens_of, coming, decided, first, IsDecided, StandsAfter, Converter, Games, games_of, HaveRead, NextGame, NextStops, NextFault, ReadsNoGame, HasReadAll, AfterNext, within_limit, StandsInText, Stands, SameGames, Gains, FinishedGame, finished_game_of, read, read_from, no_part, no_progress}
+use Rattle.pgn_game.proofs.Words.{◌≡◌, ℕ, ◌+◌, ◌-◌, ◌^◌, ◌<◌, ◌≤◌, Bool, true, false, inl, inr, List, [], ◌∷◌, ◌++◌, length, take, drop, Option, None, Some, Result, Ok, Err, refl, sym, ap, subst, ◌∙◌, arith, append-nil, append_assoc, length-append, length-drop, length-take, take_all, take-append-drop, take-append_seam, drop-append_seam, drop-length, false≢true, Token, Fault, Game, Profile, ReadFault, InputTooLong, Consumes, Consumes-nil, Consumes-trans, IsAtEnd, tokens_of, coming, first, IsDecided, StandsAfter, Converter, Games, games_of, HaveRead, NextGame, NextStops, NextFault, ReadsNoGame, HasReadAll, AfterNext, within_limit, StandsInText, Stands, SameGames, Gains, FinishedGame, finished_game_of, read, read_from, no_part, no_progress, rules, Consumes-kept}
 use Rattle.pgn_game.specs.public.GamesCalls as games_calls
 use Rattle.pgn_game.specs.steps.Flow.{At, Closes, EndsGames, FeedsPiece, FinishesLeft, PassesLimit, ReadsOn, Start, StopsAt, ended, so_far}
 use Rattle.std.specs.Io.KnownBytes.{Keeps}
 use Rattle.pgn_game.specs.steps.SourceFlow.{AfterSource, HasReadSince, ReadsSince, ReadsSource, SourceStops}
 use Rattle.pgn_game.specs.steps.SourceFlow as source_flow
-use Rattle.pgn_game.proofs.stepping.WholeInput.{keeps_consumed}
 use Rattle.pgn_game.proofs.stepping.BytesWithinLimit.{all_within, front_within, unused_now}
 use Rattle.pgn_game.proofs.flow.KnownResults.{since_start}
 use Rattle.pgn_game.proofs.stepping.GamesInTurn.{due_between, last_is, none_behind}
@@ -42,41 +41,20 @@ module _ (start : Start) (s piece : List ℕ) (c : Converter) (tokens : List Tok
   up_to = ap (take c.lexer.count) front_known ∙ ap (λ n. take n (s ++ front)) all_used ∙ take-append_seam s front
 
   stands : StandsAfter c.lexer s None tokens
-  stands =
-      let all : take c.lexer.count s ≡ s = take_all c.lexer.count s (omega (arith, all_used)) in
-      rw (whole, all, none) at here.lexer.1
+  stands = search (rules, take_all, all_used, whole)
 
   pub filled : At start (so_far (within_limit (s ++ piece))) c tokens o
-  filled =
-      record {
-        since = here.since;
-        lexer = (omega (arith, all_used, ap (length {A = ℕ}) front_known, length-append s front), rw up_to (before_any stands));
-        decided = elim here.decided [
-          | inl given ↦
-              let all : take c.lexer.count s ≡ s = take_all c.lexer.count s (omega (arith, all_used)) in
-              inl (inl (decided_at_end s tokens (rw (whole, all, none) at given) ∙ ap decided (sym up_to)))
-          | inr same ↦ inr same
-        ];
-        over = here.over;
-      }
+  filled = search (rules, all_used, front_known, length-append, up_to, before_any, stands, take_all, decided_at_end, whole)
 
   -- or that there are none
   pub whole_text : c.is_finished ≡ false → At start (ended s) c tokens o
-  whole_text going =
-      record {
-        since = here.since;
-        lexer = rw going (left_of c.lexer s None tokens stands);
-        decided = tt;
-        over = here.over;
-      }
+  whole_text going = search (rules, left_of, stands)
 
 -- ---- from where games stand within the bytes that their source has given
 
 -- what is decided stays so, whatever comes after the next byte
 next_still : (xs more : List ℕ) (b n : ℕ) → first (take n xs) ≡ Some b → first (take n (xs ++ more)) ≡ Some b
-next_still xs more b zero e = absurd (cc)
-next_still [] more b (suc n) e = absurd (cc)
-next_still (x ∷ xs) more b (suc n) e = e
+next_still xs more b n e = search rules
 
 decided_still : (used xs more : List ℕ) (n : ℕ) (given : List Token) → IsDecided used (take n xs) given → IsDecided used (take n (xs ++ more)) given
 decided_still used xs more n given (inl e) = inl e
@@ -97,29 +75,20 @@ module _ (p : Profile) (u : List ℕ) (given : List Token) (old : Games) (a : Op
     n = 2 ^ 62 - length on.used
 
     bytes_within : (more : List ℕ) → within_limit (u ++ more) ≡ on.used ++ take n (old.unused ++ more)
-    bytes_within more =
-        ap (λ xs. within_limit (xs ++ more)) on.bytes ∙ ap within_limit (append_assoc on.used old.unused more)
-        ∙ front_within on.used (old.unused ++ more) n (omega (arith, short, count))
+    bytes_within more = search (rules, append_assoc, front_within, count)
 
     used_there : (more : List ℕ) → take old.converter.lexer.count (within_limit (u ++ more)) ≡ on.used
-    used_there more =
-        ap (take old.converter.lexer.count) (bytes_within more) ∙ ap (λ k. take k (on.used ++ take n (old.unused ++ more))) count
-        ∙ take-append_seam on.used (take n (old.unused ++ more))
+    used_there more = search (rules, bytes_within, count, take-append_seam)
 
     left_there : (more : List ℕ) → drop old.converter.lexer.count (within_limit (u ++ more)) ≡ take n (old.unused ++ more)
-    left_there more =
-        ap (drop old.converter.lexer.count) (bytes_within more) ∙ ap (λ k. drop k (on.used ++ take n (old.unused ++ more))) count
-        ∙ drop-append_seam on.used (take n (old.unused ++ more))
+    left_there more = search (rules, bytes_within, count, drop-append_seam)
 
     begins_there : At start (so_far (within_limit (u ++ []))) old.converter given a
     begins_there =
         let left : take n (old.unused ++ []) ≡ take n old.unused = ap (take n) (append-nil old.unused) in
         record {
           since = since_start start old.converter on.stands.has_read on.stands.known;
-          lexer = (
-            omega (arith, count, ap (length {A = ℕ}) (bytes_within []), length-append on.used (take n (old.unused ++ []))),
-            rw (used_there [], left_there [], left) on.stands.lexer,
-          );
+          lexer = search (rules, count, bytes_within, length-append, used_there, left_there);
           decided = inr (count, refl);
           over = λ is. absurd (false≢true (sym on.not_finished ∙ is));
         }
@@ -151,8 +120,7 @@ module _ (p : Profile) (u : List ℕ) (given : List Token) (old : Games) (a : Op
             → new.games ≡ old.converter.games + 1 → new.is_finished ≡ false → NextGame p u given left_old left (games_of new unused) a c
         game_read unused is ends one going =
             let front = given ++ ends.more in
-            let size : length (read p tokens).progress.games ≡ length (read p front).progress.games + 1 =
-            ap (length {A = Game}) ends.one_game ∙ length-append (read p front).progress.games (ends.game ∷ []) in
+            let size : length (read p tokens).progress.games ≡ length (read p front).progress.games + 1 = search (rules, length-append) in
             let same = same_if_as_many p given ends.more (omega (arith, size, one, on.stands.has_read.games, here.since.has_read.games)) in
             let none : (read p tokens).progress.part ≡ no_part = rw ends.cut (none_behind p front ends.marker ends.game (rw ends.cut at here.since.has_read.passes) (rw ends.cut at ends.one_game)) in
             record {
@@ -162,11 +130,7 @@ module _ (p : Profile) (u : List ℕ) (given : List Token) (old : Games) (a : Op
               have_read = games_calls.within (record {
                 used = take new.lexer.count s;
                 bytes = bytes_in s new.lexer unused tokens (in_text here) is;
-                stands = record {
-                  known = here.since.known;
-                  lexer = stands_in s new.lexer unused tokens (in_text here) is;
-                  has_read = here.since.has_read;
-                };
+                stands = search (rules, stands_in, in_text);
                 decided = decided_in s new.lexer unused tokens (in_text here) is;
                 not_finished = going;
               });
@@ -259,8 +223,7 @@ module _ (p : Profile) (u : List ℕ) (given : List Token) (old : Games) (a : Op
   reads_text = ap (read p) left_behind ∙ reads_behind p no_progress tokens (coming mid.lexer []) there.since.has_read.passes
 
   adds : AddsOne (read p given).progress.games (read p (tokens_of text))
-  adds = subst (λ gs. AddsOne gs (read p (tokens_of text))) same_games
-      (subst (AddsOne (read p tokens).progress.games) (sym reads_text) (left_games p (read p tokens).progress mid.lexer))
+  adds = search (rules, same_games, reads_text, left_games)
 
   stands_there : Stands p mid text None tokens
   stands_there = record { known = there.since.known; lexer = stands begin text [] mid tokens b there no_more; has_read = there.since.has_read }
@@ -271,8 +234,7 @@ module _ (p : Profile) (u : List ℕ) (given : List Token) (old : Games) (a : Op
     few : IsStopShown new.reading.writing.is_silent b f.reason → new.games ≡ mid.games
     few shown =
         let to = reads (at_end.start p text None tokens mid b stands_there going) (ended text) tokens tt (at_end.begins p text None tokens mid b stands_there going) in
-        let fed = at_end.fails p text None tokens mid b stands_there going f new c shown to in
-        fed.games ∙ ap (length {A = Game}) fed.no_game ∙ sym there.since.has_read.games
+        let fed = at_end.fails p text None tokens mid b stands_there going f new c shown to in search rules
 
     pub stopped : IsStopShown new.reading.writing.is_silent a f.reason → IsStopShown new.reading.writing.is_silent b f.reason → new.just_finished ≡ None
         → NextFault p u given left_old left (games_of new unused) f a c
@@ -298,15 +260,7 @@ module _ (p : Profile) (u : List ℕ) (given : List Token) (old : Games) (a : Op
     passes = rw all at here.since.has_read.passes
 
     read_all : HasReadAll p left text (games_of new unused) (tokens_of text)
-    read_all =
-        record {
-          at_end = at_source_end;
-          short = short;
-          whole = refl;
-          none_begun = rw (← reads_text) at (left_none_begun p (read p tokens).progress mid.lexer (rw reads_text at passes));
-          has_read = rw all at here.since.has_read;
-          finished = over;
-        }
+    read_all = search (rules, short, whole, reads_text, left_none_begun, passes, all)
 
     gains : Gains p given (tokens_of text) a c
     gains = rw all at (gains_shown begin new ts c refl here.since shown)
@@ -337,25 +291,13 @@ module _ (p : Profile) (u : List ℕ) (given : List Token) (old : Games) (a : Op
       | inl same ↦ absurd (omega (arith, ends.0, as_many, many, on.stands.has_read.games, ap (length {A = Game}) same))
       | inr (none, (g, adds_one)) ↦ let finished = ends.1 (here.over over).0 in one finished.0 finished.1 g adds_one
     ]
-    ended_now false ends = elim adds [
-      | inl same ↦ record {
-        more = more;
-        consumed = consumed;
-        have_read_all = read_all;
-        no_game = same;
-        none_just_finished = ends.1;
-        gains = gains;
-      }
-      | inr (none, (g, adds_one)) ↦
-          absurd (omega (arith, ends.0, as_many, many, on.stands.has_read.games, ap (length {A = Game}) adds_one, length-append (read p given).progress.games (g ∷ [])))
-    ]
+    ended_now false ends = search (rules, adds, read_all, gains, many, length-append)
 
 -- ---- a call of `convert_game`
 
 still_within : {p : Profile} {left : Option (List ℕ)} {u : List ℕ} {old : Games} {given : List Token} → HaveRead p left u old given → old.converter.is_finished ≡ false
     → games_calls.HasReadWithin p u old given
-still_within (games_calls.HaveRead.within on) going = on
-still_within (games_calls.HaveRead.at_end all) going = absurd (false≢true (sym going ∙ all.finished))
+still_within h1 going = search (rules, all, false≢true)
 
 -- the source was read, of which the games had read these tokens
 module _ (p : Profile) (u : List ℕ) (given : List Token) (old new : Games) (l m : Option (List ℕ)) (a c : Option (List ℕ)) (v w x y : ℕ)
@@ -482,4 +424,4 @@ module _ (old now : Games) (new : Converter) (l m : Option (List ℕ)) (a b c : 
     read_fails n k f next keeps place is start u tokens ahead here =
         let so = given_so_far start u tokens ahead here in
         let to = feeds.reads start (u ++ so.more) so.tokens so.unused so.here in
-        source_flow.at_read f so.more (keeps_consumed l m n so.more so.consumed keeps) new to.0 to.1 (none_left (u ++ so.more) so.unused) place is
+        source_flow.at_read f so.more (Consumes-kept l m n so.more so.consumed keeps) new to.0 to.1 (none_left (u ++ so.more) so.unused) place is

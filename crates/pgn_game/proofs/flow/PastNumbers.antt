@@ -1,6 +1,6 @@
 -- White space that is passed, with numbers and periods in movetext.
 use Rattle.pgn_lexer.specs.WholeTokens.{none}
-use Rattle.pgn_game.proofs.Words.{length-drop, Bool, Standing, InMovetext, GameState, ◌≡◌, ℕ, ◌≤◌, List, length, take, drop, take-append-drop, Option, Ok, IsTrue, refl, arith, le_refl, false, Passes, over_space, over_token}
+use Rattle.pgn_game.proofs.Words.{length-drop, Bool, Standing, InMovetext, GameState, ◌≡◌, ℕ, ◌≤◌, List, length, take, drop, take-append-drop, Option, Ok, IsTrue, refl, arith, le_refl, false, Passes, over_space, over_token, rules}
 use Rattle.pgn_game.specs.steps.Flow.{ReadsIn}
 use Rattle.pgn_game.proofs.flow.InPiece.{reads_more, reads_token}
 use Rattle.pgn_game.proofs.flow.InTurn.{goes_none, reads_in_then}
@@ -17,30 +17,10 @@ module _ (lexer : Standing) (reading : GameState) (games : ℕ) (piece : List �
       reads_in_then within (reads_past passes (omega (arith, within))) (record {
         reads = reads_more (now_at l reading games false) (drop m piece) (take 1 (drop m piece)) (drop 1 (drop m piece))
             (take-append-drop 1 (drop m piece)) (omega (arith, scans.reads.0)) scans o n;
-        goes = record {
-          within = omega (arith, within, length-drop m piece);
-          count = scans.count;
-          sooner = omega (arith, waits);
-          games = omega arith;
-          none_else = refl;
-          not_finished = refl;
-          fault = refl;
-          probes = le_refl _;
-          counted = refl;
-        };
+        goes = search (rules, length-drop, le_refl);
       })
   reads_past (over_token l new m count t passes within some scans skipped passed) inside =
       reads_in_then within (reads_past passes (omega (arith, within))) (record {
         reads = reads_token (now_at l reading games false) (drop m piece) (omega (arith, inside, length-drop m piece)) t scans reading (between o o n n) (takes_passed reading t.kind o n (at skipped) passed);
-        goes = record {
-          within = omega (arith, inside, length-drop m piece);
-          count = scans.count;
-          sooner = omega (arith, scans.advances);
-          games = omega arith;
-          none_else = refl;
-          not_finished = refl;
-          fault = refl;
-          probes = le_refl _;
-          counted = refl;
-        };
+        goes = search (rules, length-drop, le_refl);
       })

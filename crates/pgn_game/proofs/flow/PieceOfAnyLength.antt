@@ -1,7 +1,7 @@
 -- What `feed_piece` does: of a piece of any length the bytes before place 2^62 are read.
 use Rattle.pgn_game.specs.declared.converter.Fed.{Fed}
 use Rattle.pgn_game.specs.declared.converter.Fed.TheVariants.{All, Game as GameEnd}
-use Rattle.pgn_game.proofs.Words.{◌≡◌, ℕ, ◌+◌, ◌-◌, ◌≤◌, ◌<◌, ◌^◌, inl, inr, Bool, true, false, List, [], ◌∷◌, length, take, drop, Option, None, Some, Result, Ok, Err, refl, sym, ap, ◌∙◌, arith, le_refl, length-drop, length-take, Token, Fault, InputTooLong, Converter, IsGoing, within_limit}
+use Rattle.pgn_game.proofs.Words.{◌≡◌, ℕ, ◌+◌, ◌-◌, ◌≤◌, ◌<◌, ◌^◌, inl, inr, Bool, true, false, List, [], length, take, drop, Option, None, Some, Result, Ok, Err, refl, sym, ap, ◌∙◌, arith, le_refl, length-drop, length-take, Token, Fault, InputTooLong, Converter, IsGoing, within_limit, rules}
 use Rattle.pgn_game.specs.steps.Flow.{At, FeedsPiece, Reached, ReadsIn, ReadsNothing, ReadsOn, Start, so_far}
 use Rattle.pgn_game.proofs.stepping.ReadsInText.{between, front_ahead}
 use Rattle.pgn_game.proofs.stepping.StepsAtEnd.{let_go}
@@ -15,24 +15,11 @@ let_go_of c = record c { just_finished = None }
 
 at_start : (start : Start) (s : List ℕ) (c : Converter) (tokens : List Token) (o : Option (List ℕ)) → At start (so_far s) c tokens o
     → At start (so_far s) (let_go_of c) tokens o
-at_start start s c tokens o here =
-    record {
-      since = record {
-        more = here.since.more;
-        extends = here.since.extends;
-        has_read = let_go start.profile c tokens here.since.has_read;
-        known = here.since.known;
-        gains = here.since.gains;
-      };
-      lexer = here.lexer;
-      decided = here.decided;
-      over = here.over;
-    }
+at_start start s c tokens o here = search (rules, let_go)
 
 reads_nothing : (old : Converter) (piece : List ℕ) (new : Converter) (result : Result Fed Fault) → 0 < length piece → result ≡ Err past_limit → new.reading ≡ old.reading
     → ReadsNothing old piece new result
-reads_nothing old [] new result some is same = absurd (omega (arith, some))
-reads_nothing old (x ∷ rest) new result some is same = (is, same)
+reads_nothing old piece new result some is same = search rules
 
 module _ (old : Converter) (piece : List ℕ) (n : ℕ) (room : old.lexer.count + n ≡ 2 ^ 62) where
   -- ---- no byte is before place 2^62
@@ -42,19 +29,7 @@ module _ (old : Converter) (piece : List ℕ) (n : ℕ) (room : old.lexer.count 
       rw is (record {
         reads = λ start s tokens ahead here. (tokens, at_start start (within_limit s) old tokens o here);
         none = λ none. ((refl, refl), refl);
-        goes = record {
-          used = omega arith;
-          count = omega arith;
-          grows = le_refl _;
-          within = omega arith;
-          short = omega (arith, room);
-          advances = tt;
-          not_finished = going.not_finished;
-          fault = going.no_fault;
-          games = (refl, refl);
-          probes = le_refl _;
-          counted = refl;
-        };
+        goes = search (rules, le_refl);
       })
 
   size : (s : List ℕ) → drop old.lexer.count s ≡ piece → length piece ≡ length s - old.lexer.count
@@ -77,34 +52,18 @@ module _ (old : Converter) (piece : List ℕ) (n : ℕ) (room : old.lexer.count 
               same = refl;
             });
         none = λ empty. (reads_nothing old piece (record old { just_finished = None; fault = Some past_limit }) (Err past_limit) some refl refl, refl);
-        goes = record {
-          used = tt;
-          count = tt;
-          grows = le_refl _;
-          within = omega arith;
-          short = omega (arith, room);
-          advances = tt;
-          not_finished = going.not_finished;
-          fault = refl;
-          games = (refl, refl);
-          probes = le_refl _;
-          counted = refl;
-        };
+        goes = search (rules, le_refl);
       }
 
   -- ---- some bytes are, and are read
 
   module _ (some : 0 < length (take n piece)) (few : old.games < 2 ^ 64) (new : Converter) (used : ℕ) (a c : Option (List ℕ)) (x y : ℕ) where
     not_none : {A : Type 0} → take (2 ^ 62 - old.lexer.count) piece ≡ [] → A
-    not_none none =
-        let same : 2 ^ 62 - old.lexer.count ≡ n = omega (arith, room) in
-        let size = ap (length {A = ℕ}) (rw same at none) in
-        absurd (omega (arith, some, size))
+    not_none none = search rules
 
     reached : (result : Result Bool Fault) → ReadsOn (let_go_of old) (Some (take n piece)) new result (between a c x y) → (start : Start) (s : List ℕ) (tokens : List Token)
         → drop old.lexer.count s ≡ piece → At start (so_far (within_limit s)) old tokens a → Reached start (so_far (within_limit s)) new result c
-    reached result reads start s tokens ahead here =
-        reads start (so_far (within_limit s)) tokens (front_ahead s piece old.lexer.count n ahead room) (at_start start (within_limit s) old tokens a here)
+    reached result reads start s tokens ahead here = search (rules, front_ahead, at_start)
 
     pub feeds_fault : (f : Fault) → ReadsIn (let_go_of old) (take n piece) new used (Err f) (between a c x y) → FeedsPiece old piece new (Err f) (between a c x y)
     feeds_fault f steps =
@@ -112,19 +71,7 @@ module _ (old : Converter) (piece : List ℕ) (n : ℕ) (room : old.lexer.count 
         record {
           reads = λ start s tokens ahead here. inl (reached (Err f) steps.reads start s tokens ahead here);
           none = not_none;
-          goes = record {
-            used = tt;
-            count = tt;
-            grows = omega (arith, goes.count);
-            within = omega (arith, goes.count, goes.within, length-take n piece);
-            short = omega (arith, goes.count, goes.within, room, length-take n piece);
-            advances = tt;
-            not_finished = goes.not_finished;
-            fault = goes.fault;
-            games = (omega (arith, goes.games), goes.none_else);
-            probes = goes.probes;
-            counted = goes.counted;
-          };
+          goes = search (rules, length-take);
         }
 
     pub feeds_game : ReadsIn (let_go_of old) (take n piece) new used (Ok true) (between a c x y) → FeedsPiece old piece new (Ok (GameEnd used)) (between a c x y)
@@ -133,19 +80,7 @@ module _ (old : Converter) (piece : List ℕ) (n : ℕ) (room : old.lexer.count 
         record {
           reads = reached (Ok true) steps.reads;
           none = not_none;
-          goes = record {
-            used = omega (arith, goes.within, length-take n piece);
-            count = goes.count;
-            grows = omega (arith, goes.count);
-            within = omega (arith, goes.count, goes.within, length-take n piece);
-            short = omega (arith, goes.count, goes.within, room, length-take n piece);
-            advances = goes.sooner;
-            not_finished = goes.not_finished;
-            fault = goes.fault;
-            games = (goes.games, few);
-            probes = goes.probes;
-            counted = goes.counted;
-          };
+          goes = search (rules, length-take);
         }
 
     module _ (steps : ReadsIn (let_go_of old) (take n piece) new used (Ok false) (between a c x y)) (all : used ≡ length (take n piece)) where
@@ -155,19 +90,7 @@ module _ (old : Converter) (piece : List ℕ) (n : ℕ) (room : old.lexer.count 
           record {
             reads = reached (Ok false) steps.reads;
             none = not_none;
-            goes = record {
-              used = le_refl _;
-              count = omega (arith, goes.count, all, whole, length-take n piece);
-              grows = omega (arith, goes.count);
-              within = omega (arith, goes.count, goes.within, length-take n piece);
-              short = omega (arith, goes.count, goes.within, room, length-take n piece);
-              advances = tt;
-              not_finished = goes.not_finished;
-              fault = goes.fault;
-              games = (omega (arith, goes.games), goes.none_else);
-              probes = goes.probes;
-              counted = goes.counted;
-            };
+            goes = search (rules, le_refl, length-take);
           }
 
       pub feeds_to_limit : n < length piece → FeedsPiece old piece (record new { fault = Some past_limit }) (Err past_limit) (between a c x y)
@@ -188,17 +111,5 @@ module _ (old : Converter) (piece : List ℕ) (n : ℕ) (room : old.lexer.count 
                   same = refl;
                 });
             none = not_none;
-            goes = record {
-              used = tt;
-              count = tt;
-              grows = omega (arith, goes.count);
-              within = omega (arith, goes.count, goes.within, length-take n piece);
-              short = omega (arith, goes.count, goes.within, room, length-take n piece);
-              advances = tt;
-              not_finished = goes.not_finished;
-              fault = refl;
-              games = (omega (arith, goes.games), goes.none_else);
-              probes = goes.probes;
-              counted = goes.counted;
-            };
+            goes = search (rules, length-take);
           }

@@ -1,6 +1,6 @@
 -- What a step in a piece does: a call of the lexer, or what it passes and the token behind that.
 use Rattle.pgn_lexer.specs.Scanned.{token}
-use Rattle.pgn_game.proofs.Words.{subst, seen, IsBeforePiece, IsBeforeToken, LexFault, Lexical, Fault, Bool, IsTrue, true, false, ◌≡◌, ℕ, ◌+◌, ◌-◌, ◌<◌, ◌≤◌, ◌^◌, List, [], length, drop, length-drop, append-nil, le_refl, Option, None, Some, Result, Ok, Err, refl, arith, Token, InMovetext, Reason, GameState, Converter, Device, IsSound, Standing, fault, more, Scans, ReadsBehind}
+use Rattle.pgn_game.proofs.Words.{seen, IsBeforePiece, IsBeforeToken, LexFault, Lexical, Fault, Bool, IsTrue, true, false, ◌≡◌, ℕ, ◌+◌, ◌-◌, ◌<◌, ◌≤◌, ◌^◌, List, [], length, drop, length-drop, append-nil, le_refl, Option, None, Some, Result, Ok, Err, arith, Token, InMovetext, Reason, GameState, Converter, Device, IsSound, Standing, fault, more, Scans, ReadsBehind, rules}
 use Rattle.pgn_game.specs.steps.Flow.{HasTakenToken, ReadsIn, StepsIn, settled, taken_at}
 use Rattle.pgn_game.specs.steps.TokenTaken.{TakesPlaced}
 use Rattle.pgn_game.proofs.putting.TokenAtPlace.{placed_between, placed_counts, placed_keeps}
@@ -22,17 +22,7 @@ module _ (lexer : Standing) (reading : GameState) (games : ℕ) (piece : List �
       record {
         reads = record {
           reads = reads_more (now_at lexer reading games false) piece piece [] (append-nil piece) some scans o n;
-          goes = record {
-            within = within;
-            count = scans.count;
-            sooner = omega (arith, scans.few, scans.reads.0, some);
-            games = omega arith;
-            none_else = refl;
-            not_finished = refl;
-            fault = refl;
-            probes = le_refl _;
-            counted = refl;
-          };
+          goes = search (rules, le_refl);
         };
         nearer = omega (arith, scans.few, scans.reads.0, some);
       }
@@ -41,24 +31,7 @@ module _ (lexer : Standing) (reading : GameState) (games : ℕ) (piece : List �
   pub steps_fault : (f : LexFault) → Scans lexer piece l used (fault f) → (o : Option (List ℕ)) (n : ℕ)
       → StepsIn (now_at lexer reading games false) piece (record (now_at l reading games false) { fault = Some (record { at = f.at; reason = Lexical f.reason }) }) used
       (Err (record { at = f.at; reason = Lexical f.reason })) (between o o n n)
-  steps_fault f scans o n =
-      record {
-        reads = record {
-          reads = reads_fault (now_at lexer reading games false) piece within some f scans _ refl refl o n;
-          goes = record {
-            within = within;
-            count = scans.count;
-            sooner = tt;
-            games = omega arith;
-            none_else = refl;
-            not_finished = refl;
-            fault = refl;
-            probes = le_refl _;
-            counted = refl;
-          };
-        };
-        nearer = tt;
-      }
+  steps_fault f scans o n = search (rules, reads_fault, now_at, le_refl)
 
   -- a token is read, which the reader takes
   module _ {t : Token} (scans : Scans lexer piece l used (token t)) (new : GameState) (sink : Device) where
@@ -68,17 +41,7 @@ module _ (lexer : Standing) (reading : GameState) (games : ℕ) (piece : List �
         record {
           reads = record {
             reads = reads_token (now_at lexer reading games false) piece within t scans new sink takes;
-            goes = record {
-              within = within;
-              count = scans.count;
-              sooner = omega (arith, scans.advances);
-              games = omega arith;
-              none_else = refl;
-              not_finished = refl;
-              fault = refl;
-              probes = takes.keeps.probes;
-              counted = takes.counted;
-            };
+            goes = search rules;
           };
           nearer = omega (arith, scans.advances);
         }
@@ -86,52 +49,19 @@ module _ (lexer : Standing) (reading : GameState) (games : ℕ) (piece : List �
         record {
           reads = record {
             reads = reads_game (now_at lexer reading games false) piece within t scans new sink takes;
-            goes = record {
-              within = within;
-              count = scans.count;
-              sooner = scans.advances;
-              games = refl;
-              none_else = tt;
-              not_finished = refl;
-              fault = refl;
-              probes = takes.takes.keeps.probes;
-              counted = takes.takes.counted;
-            };
+            goes = search rules;
           };
           nearer = omega (arith, scans.advances);
         }
-    steps_taken (Err reason) takes =
-        record {
-          reads = record {
-            reads = reads_stop (now_at lexer reading games false) piece within t scans new sink reason takes _ refl refl;
-            goes = record {
-              within = within;
-              count = scans.count;
-              sooner = tt;
-              games = omega arith;
-              none_else = refl;
-              not_finished = refl;
-              fault = refl;
-              probes = (placed_keeps reading t.kind t.at new (Err reason) sink takes).probes;
-              counted = counts_reason reason sink (placed_counts reading t.kind t.at new reason sink takes);
-            };
-          };
-          nearer = tt;
-        }
+    steps_taken (Err reason) takes = search (rules, reads_stop, now_at, placed_keeps, counts_reason, placed_counts)
 
     module _ (sound : IsSound lexer reading games false false None) (short : lexer.count + length piece ≤ 2 ^ 62)
         (taken : Result Bool Reason) (takes : TakesPlaced reading t.kind t.at new taken sink) where
       pub sound_taken : IsSound l new games false false None
-      sound_taken = sound_in_piece lexer l reading new games used (length piece) scans.advances scans.count within short (sound.few refl) (sound.fewer_plies refl refl)
-          (placed_keeps reading t.kind t.at new taken sink takes)
+      sound_taken = search (rules, sound_in_piece, placed_keeps)
 
       pub has_taken : HasTakenToken (now_at l new games false) taken
-      has_taken =
-          record {
-            before = record { no_fault = refl; not_finished = refl; none_just_finished = refl };
-            few = omega (arith, scans.advances, scans.count, sound.few refl);
-            between = placed_between reading t.kind t.at new taken sink takes;
-          }
+      has_taken = search (rules, between, placed_between)
 
 -- and what was passed before it
 module _ (lexer : Standing) (reading : GameState) (games : ℕ) (piece : List ℕ) (sound : IsSound lexer reading games false false None) (short : lexer.count + length piece ≤ 2 ^ 62)
@@ -170,8 +100,7 @@ module _ (lexer : Standing) (reading : GameState) (games : ℕ) (piece : List �
 pub steps_of : {here old new : Converter} {piece : List ℕ} {used : ℕ} {outcome : Result Bool Fault} (a b : Option (List ℕ)) (x y : ℕ)
     → here ≡ old → StepsIn here piece new used outcome (seen here.reading.writing.is_silent (between a b x y))
     → StepsIn old piece new used outcome (seen old.reading.writing.is_silent (between a b x y))
-steps_of {here} {old} {new} {piece} {used} {outcome} a b x y same steps =
-    subst (λ (s : Converter). StepsIn s piece new used outcome (seen s.reading.writing.is_silent (between a b x y))) same steps
+steps_of {here} {old} {new} {piece} {used} {outcome} a b x y same steps = search (rules, between)
 
 -- a run that used a byte is a step
 pub steps_run : {old new : Converter} {piece : List ℕ} {used : ℕ} {sink : Device} → 0 < used → ReadsIn old piece new used (Ok false) sink
@@ -186,12 +115,7 @@ room_behind {piece = piece} {at = at} short reads = omega (arith, reads.goes.cou
 -- and a step can be taken, if a byte is left
 pub before_rest : {old now : Converter} {piece : List ℕ} {at : ℕ} {sink : Device} → old.lexer.count + length piece ≤ 2 ^ 62 → ReadsIn old piece now at (Ok false) sink → at < length piece
     → IsBeforePiece now (drop at piece)
-before_rest {piece = piece} {at = at} short reads here =
-    record {
-      before = record { no_fault = reads.goes.fault; not_finished = reads.goes.not_finished; none_just_finished = reads.goes.none_else };
-      some = omega (arith, here, length-drop at piece);
-      short = room_behind short reads;
-    }
+before_rest {piece = piece} {at = at} short reads here = search (rules, length-drop, room_behind)
 
 pub before_now : {old now : Converter} {piece : List ℕ} {at : ℕ} {sink : Device} → ReadsIn old piece now at (Ok false) sink → IsBeforeToken now
 before_now reads = record { no_fault = reads.goes.fault; not_finished = reads.goes.not_finished; none_just_finished = reads.goes.none_else }

@@ -1,6 +1,6 @@
 -- What was gained since a start, and how reading stopped: where the sink is seen, and where it is
 -- not.
-use Rattle.pgn_game.proofs.Words.{Writing, Token, Fault, Reason, WriteFault, Profile, ◌≡◌, ℕ, Bool, true, false, List, [], ◌∷◌, ◌++◌, length, Option, None, refl, sym, ap, subst, ◌∙◌, ◌⊎◌, inl, inr, bytes_seen, false≢true, due, Appends, Gains, Converter, GameState, IsStopped, part_after, FaultAtEnd, SameGames, Stops, games_before, position_at_stop, reported_position, ProbesAtStop, FedToFault, read}
+use Rattle.pgn_game.proofs.Words.{Writing, Token, Fault, Reason, WriteFault, Profile, ◌≡◌, ℕ, Bool, true, false, List, [], ◌∷◌, ◌++◌, length, Option, None, sym, ap, subst, ◌∙◌, ◌⊎◌, bytes_seen, false≢true, Gains, Converter, GameState, IsStopped, part_after, FaultAtEnd, SameGames, Stops, games_before, position_at_stop, reported_position, ProbesAtStop, FedToFault, read, rules}
 use Rattle.pgn_game.specs.steps.Flow.{Known, Since, Start, StopsAt, so_far}
 use Rattle.pgn_game.proofs.flow.GamesGoOn.{same_if_as_many}
 use Rattle.pgn_game.proofs.stepping.AcceptedToConverter.{at_fault, at_refusal}
@@ -16,35 +16,24 @@ abbrev pub IsStopShown : Bool → Option (List ℕ) → Reason → Type 0
 IsStopShown silent before reason = (silent ≡ false) ⊎ ((before ≡ None) × (reason ≡ WriteFault → ⊥))
 
 pub shown_if : (silent now : Bool) (bytes : Option (List ℕ)) → now ≡ silent → IsShown now (bytes_seen silent bytes)
-shown_if true now bytes same = inr refl
-shown_if false now bytes same = inl same
+shown_if silent now bytes same = search rules
 
 pub stop_shown_if : (silent now : Bool) (bytes : Option (List ℕ)) (reason : Reason) → now ≡ silent → (silent ≡ true → reason ≡ WriteFault → ⊥) → IsStopShown now (bytes_seen silent bytes) reason
-stop_shown_if true now bytes reason same none = inr (refl, none refl)
-stop_shown_if false now bytes reason same none = inl same
+stop_shown_if silent now bytes reason same none = search rules
 
 -- what an unseen sink has taken is all that is due
 gains_unseen : (p : Profile) (given more tokens : List Token) (a c : Option (List ℕ)) → a ≡ None → tokens ≡ given ++ more → Gains p given tokens a c
 gains_unseen p given more tokens a c unseen extends =
-    let grown = due_grows p given more in
-    record {
-      text = grown.0;
-      due_for = ap (due p) extends ∙ grown.1;
-      appended = subst (λ (o : Option (List ℕ)). Appends o c grown.0) (sym unseen) tt;
-    }
+    let grown = due_grows p given more in search rules
 
 pub gains_shown : (start : Start) (c : Converter) (tokens : List Token) (after : Option (List ℕ)) → start.expected ≡ None → Since start c tokens after
     → IsShown c.reading.writing.is_silent start.before → Gains start.profile start.given tokens start.before after
-gains_shown start c tokens after plain since (inl writes) = plain_gains start.profile start.expected start.given tokens start.before after plain (since.gains writes)
-gains_shown start c tokens after plain since (inr unseen) = gains_unseen start.profile start.given since.more tokens start.before after unseen since.extends
+gains_shown start c tokens after plain since h1 = search (rules, plain_gains, gains_unseen)
 
 -- as many games as at the start are the same
 pub same_since : (start : Start) (c : Converter) (tokens : List Token) (after : Option (List ℕ)) → Since start c tokens after
     → c.games ≡ length (read start.profile start.given).progress.games → SameGames start.profile start.given tokens
-same_since start c tokens after since many =
-    ap (λ ts. (read start.profile ts).progress.games) since.extends
-    ∙ same_if_as_many start.profile start.given since.more
-    (ap (λ ts. length (read start.profile ts).progress.games) (sym since.extends) ∙ sym since.has_read.games ∙ many)
+same_since start c tokens after since many = search (rules, same_if_as_many)
 
 -- How reading stopped at one of the tokens `ts`. `tokens` are those before it.
 pub record StopsSince (p : Profile) (given tokens ts : List Token) (f : Fault) (reading : GameState) (before after : Option (List ℕ)) : Type 0 where
@@ -59,24 +48,14 @@ module _ (start : Start) (text : Known) (f : Fault) (new : Converter) (after : O
   same_silence = ap (λ (w : Writing). w.is_silent) to.writing
 
   shown_before : IsStopShown new.reading.writing.is_silent start.before f.reason → IsShown to.now.reading.writing.is_silent start.before
-  shown_before (inl writes) = inl (sym same_silence ∙ writes)
-  shown_before (inr unseen) = inr unseen.0
+  shown_before h1 = search (rules, same_silence)
 
   not_another : IsStopped to.now.reading (part_after start.profile to.tokens) to.token.kind new.reading to.mid after f.reason
-  not_another = elim to.stopped [
-    | inl stopped ↦ stopped
-    | inr another ↦ absurd (false≢true (rw plain at another.other))
-  ]
+  not_another = search (rules, false≢true)
 
   at_token : IsStopShown new.reading.writing.is_silent start.before f.reason
       → FaultAtEnd start.profile to.tokens (to.tokens ++ to.token ∷ us) (record { at = to.token.at; reason = f.reason }) new.reading to.mid after
-  at_token (inl writes) =
-      let has_read = to.since.has_read in
-      let known = rw plain at (to.since.known (sym same_silence ∙ writes)) in
-      at_fault start.profile to.now to.tokens to.token to.now.lexer new.reading false has_read to.profile to.probes to.writing
-      (written_known start.profile to.now.reading known has_read.profile ∙ sym has_read.profile) us not_another
-  at_token (inr unseen) =
-      at_refusal start.profile to.now to.tokens to.token to.now.lexer new.reading false to.since.has_read to.profile to.probes to.writing us unseen.1 not_another
+  at_token h1 = search (rules, same_silence, at_fault, written_known, not_another, at_refusal)
 
   pub stops_since : StopsSince start.profile start.given to.tokens (to.tokens ++ to.token ∷ us) f new.reading start.before after
   stops_since =

@@ -1,5 +1,5 @@
 -- One token that the lexer gave and the reader took, wherever it comes from.
-use Rattle.pgn_game.proofs.Words.{is_end, Between, Writing, WriteFault, le_refl, Token, Profile, Game, Part, Read, Next, Reason, ◌≡◌, ◌+◌, ◌∷◌, ◌++◌, ℕ, Bool, true, false, false≢true, inl, inr, List, [], Option, None, Some, Ok, Err, refl, sym, ap, subst, ◌∙◌, append_assoc, Device, Standing, GameState, Leads, More, Finished, Converter, IsBehind, part_after, TakesToken, game_in_reader, game_of, marker_of, next, whole, progress_with, refusal, as_written, LexFault, Lexical, Appends, Appends-nil, FinishedGame, gain, IsStopped, read}
+use Rattle.pgn_game.proofs.Words.{is_end, Between, Writing, WriteFault, le_refl, Token, Profile, Game, Part, Next, Reason, ◌≡◌, ◌+◌, ◌∷◌, ◌++◌, ℕ, Bool, true, false, false≢true, inl, List, [], Option, None, Some, Ok, Err, refl, sym, ap, subst, ◌∙◌, append_assoc, Device, Standing, GameState, Leads, More, Finished, Converter, IsBehind, part_after, TakesToken, game_in_reader, game_of, marker_of, next, whole, refusal, as_written, LexFault, Lexical, Appends, Appends-nil, FinishedGame, gain, rules}
 use Rattle.pgn_lexer.specs.PartialToken.{refusal as refusal_token}
 use Rattle.pgn_game.specs.steps.TokenTaken.{FinishesPlaced, TakesPlaced}
 use Rattle.pgn_game.specs.steps.GameState.{expected_of, is_unexpected, refused}
@@ -35,11 +35,7 @@ module _ (start : Start) (text : Known) (old : Converter) (given : List Token) (
 
   -- a reader that has not changed how it writes knows the same
   still_known : new.writing ≡ old.reading.writing → new.writing.is_silent ≡ false → KnowsResult start.expected start.profile new
-  still_known writing writes = knows start.expected (here.known (written_before writing writes))
-    where
-      knows : (expected : _) → KnowsResult expected start.profile old.reading → KnowsResult expected start.profile new
-      knows None known = known
-      knows (Some m) (takes, announced) = (takes, ap (λ (w : Writing). w.announced) writing ∙ announced)
+  still_known writing writes = search (rules, written_before)
 
   extends_on : given ++ t ∷ [] ≡ start.given ++ (here.more ++ t ∷ [])
   extends_on = ap (λ ts. ts ++ t ∷ []) here.extends ∙ append_assoc start.given here.more (t ∷ [])
@@ -73,8 +69,7 @@ module _ (start : Start) (text : Known) (old : Converter) (given : List Token) (
   -- it finishes the game
   module _ (ends : FinishesPlaced old.reading t.kind t.at new d) where
     free : refusal start.profile (part_after start.profile given) t.kind ≡ None
-    free = subst (λ q. refusal q (part_after start.profile given) t.kind ≡ None) here.has_read.profile
-        ((ends.takes.accepts (part_after start.profile given) here.has_read.agrees).free)
+    free = search rules
 
     abbrev game : Game
     game = game_of (part_after start.profile given) ends.text
@@ -121,9 +116,7 @@ module _ (start : Start) (text : Known) (old : Converter) (given : List Token) (
           cut = ap (λ ts. ts ++ t ∷ []) here.extends;
           ends = there;
           game = game;
-          one_game = ap (λ (r : Read). r.progress.games) (read-passes start.profile given t here.has_read.passes free)
-              ∙ ap (λ (n : Next). (progress_with (read start.profile given).progress.games n).games) leads
-              ∙ ap (λ ts. (read start.profile ts).progress.games ++ game ∷ []) here.extends;
+          one_game = search (rules, read-passes, free, leads);
           just_finished = ap (λ (g : FinishedGame). Some g) (finished_behind behind);
           free = subst (λ ts. refusal start.profile (part_after start.profile ts) t.kind ≡ None) here.extends free;
           leads = subst (λ ts. next (part_after start.profile ts) t.kind ≡ whole game) here.extends leads;
@@ -135,40 +128,12 @@ module _ (start : Start) (text : Known) (old : Converter) (given : List Token) (
   -- if a write failed at a marker, it is the one that was announced
   expected_if : (reason : Reason) → TakesPlaced old.reading t.kind t.at new (Err reason) d → old.reading.writing.is_silent ≡ false → reason ≡ WriteFault
       → (text : List ℕ) → marker_of t.kind ≡ Some text → is_unexpected start.expected text t.at ≡ false
-  expected_if reason (inl took) writes failed text is = subst (λ (e : _). is_unexpected e text t.at ≡ false) (expected_here writes) (took.1 text is failed)
-  expected_if reason (inr another) writes failed text is = absurd (cc (another.unexpected.why, failed))
+  expected_if reason h1 writes failed text is = search (rules, expected_here)
 
   -- it is rejected, a write failed, or another marker was announced
   pub stops : (reason : Reason) → TakesPlaced old.reading t.kind t.at new (Err reason) d → IsNextIn text given t
       → (now : Converter) → now.reading ≡ new → now.games ≡ old.games → StopsAt start text (record { at = t.at; reason = reason }) now d.after
-  stops reason takes next now is same =
-      let keeps = placed_keeps old.reading t.kind t.at new (Err reason) d takes in
-      record {
-        now = old;
-        tokens = given;
-        mid = d.before;
-        since = here;
-        token = t;
-        next = next;
-        place = refl;
-        stopped = elim takes [
-          | inl took ↦ inl (subst (λ (r : GameState). IsStopped old.reading (part_after start.profile given) t.kind r d.before d.after reason) (sym is)
-              (took.0.accepts (part_after start.profile given) here.has_read.agrees))
-          | inr another ↦ inr (record {
-            text = another.text;
-            is = another.is;
-            other = subst (λ (e : _). is_unexpected e another.text t.at ≡ true)
-                (expected_here (writes_if_expected old.reading another.text t.at another.unexpected.other)) another.unexpected.other;
-            why = another.unexpected.why;
-            unwritten = another.unexpected.unwritten;
-          })
-        ];
-        expected = expected_if reason takes;
-        games = same;
-        profile = rw is keeps.profile;
-        writing = rw is keeps.writing;
-        probes = rw is keeps.probes;
-      }
+  stops reason takes next now is same = search (rules, placed_keeps, expected_here, writes_if_expected, expected_if)
 
 -- the lexer rejects the text
 pub stops_lexical : (start : Start) (text : Known) (old : Converter) (given : List Token) (a : Option (List ℕ)) → Since start old given a

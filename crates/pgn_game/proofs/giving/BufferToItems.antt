@@ -1,5 +1,5 @@
 -- From a token of the bytes that were read to what is read of the source.
-use Rattle.pgn_game.proofs.Words.{ahead_of, ◌≡◌, ℕ, ◌+◌, ◌-◌, ◌^◌, ◌<◌, ◌≤◌, ◌==◌, true, false, List, [], ◌++◌, length, take, drop, Option, None, Some, Ok, Err, refl, sym, ap, subst, ◌∙◌, arith, inl, append-nil, Consumes-nil, append_assoc, length-append, length-take, take-append-drop, take-take, drop-take, eqb-true, Token, Fault, InputTooLong, Profile, StandsAfter, Standing, first, within_limit, AreNext, HasRead}
+use Rattle.pgn_game.proofs.Words.{ahead_of, ◌≡◌, ℕ, ◌+◌, ◌-◌, ◌^◌, ◌<◌, ◌≤◌, ◌==◌, true, false, List, ◌++◌, length, take, drop, Option, None, Some, Ok, Err, refl, sym, ap, subst, ◌∙◌, arith, append-nil, Consumes-nil, append_assoc, length-append, length-take, take-append-drop, take-take, drop-take, eqb-true, Token, Fault, InputTooLong, Profile, StandsAfter, Standing, first, within_limit, AreNext, HasRead, rules}
 use Rattle.pgn_game.specs.declared.item.Item.{Item as CodeItem}
 use Rattle.pgn_game.specs.public.GamesCalls.{HasReadWithin}
 use Rattle.pgn_game.specs.public.ItemsCalls.{Current, Items, games_of_items}
@@ -13,19 +13,11 @@ pub empty_if : (n : ℕ) → true ≡ (n == 0) → n ≡ 0
 empty_if n h = eqb-true n 0 (sym h)
 
 pub some_if : (n : ℕ) → false ≡ (n == 0) → 0 < n
-some_if (Prim.Native.Nat.zero) h = absurd (cc)
-some_if (Prim.Native.Nat.suc n) h = omega arith
+some_if n h = search rules
 
 -- bytes are left of an earlier read
 pub some_left : (left : Option (List ℕ)) (i : Items) → 0 < length i.unused → FillsItems left left i i
-some_left left i some = record {
-  more = [];
-  consumed = Consumes-nil left;
-  new_is = sym (ap (λ (xs : List ℕ). record i { unused = xs }) (append-nil i.unused));
-  some = some;
-  few = omega arith;
-  empty = inl refl;
-}
+some_left left i some = search (rules, Consumes-nil, append-nil)
 
 -- the same items with a fault
 abbrev pub failed : Items → Fault → Items
@@ -82,14 +74,12 @@ module _ (old : Items) (going : AreGoing old) (count : old.lexer.count ≤ 2 ^ 6
 
     goes_on : (item : Option CodeItem) (p : Profile) (given tokens : List Token) → AfterToken p given tokens lexer current item
         → HasRead p (reads_as lexer current) tokens
-    goes_on None p given tokens after = after.has_read
-    goes_on (Some i) p given tokens after = after.0.has_read
+    goes_on item p given tokens after = search rules
 
     module _ (some : 0 < length piece) where
       stands_before : (p : Profile) (u : List ℕ) (given : List Token) (reads : HasReadWithin p u (games_of_items old) given)
           → StandsAfter old.lexer reads.used (first piece) given
-      stands_before p u given reads =
-          subst (λ (n : ℕ). StandsAfter old.lexer reads.used (first (take (2 ^ 62 - n) old.unused)) given) (sym reads.stands.lexer.count) reads.stands.lexer
+      stands_before p u given reads = search rules
 
       module _ (item : Option CodeItem) (reads_token : ReadsToken old.lexer old.current piece lexer current used (Ok item)) where
         within : used ≤ room
@@ -100,21 +90,11 @@ module _ (old : Items) (going : AreGoing old) (count : old.lexer.count ≤ 2 ^ 6
 
         rest : drop used piece ≡ take (room - used) (drop used old.unused)
         rest =
-            let sum : room ≡ used + (room - used) = omega (arith, within) in
-            ap (λ (k : ℕ). drop used (take k old.unused)) sum ∙ drop-take used (room - used) old.unused
+            let sum : room ≡ used + (room - used) = omega (arith, within) in search (rules, drop-take)
 
         left_is : (p : Profile) (u : List ℕ) (given : List Token) (reads : HasReadWithin p u (games_of_items old) given)
             → drop used piece ≡ ahead_of (reads.used ++ take used old.unused) (drop used old.unused)
-        left_is p u given reads =
-            let size : room - used ≡ 2 ^ 62 - length (reads.used ++ take used old.unused) = omega (
-              arith,
-              place p u given reads,
-              reads_token.within,
-              length-take room old.unused,
-              length-append reads.used (take used old.unused),
-              length-take used old.unused,
-            ) in
-            rest ∙ ap (λ (n : ℕ). take n (drop used old.unused)) size
+        left_is p u given reads = search (rules, place, length-take, length-append, rest)
 
         reads_to : (p : Profile) (u : List ℕ) (given : List Token) → HasReadWithin p u (games_of_items old) given → AfterBuffered p u given (new None) (Ok item)
         reads_to p u given reads =
@@ -124,8 +104,7 @@ module _ (old : Items) (going : AreGoing old) (count : old.lexer.count ≤ 2 ^ 6
               tokens,
               record {
                 used = reads.used ++ take used old.unused;
-                bytes = reads.bytes ∙ ap (λ (xs : List ℕ). reads.used ++ xs) (sym (take-append-drop used old.unused))
-                    ∙ sym (append_assoc reads.used (take used old.unused) (drop used old.unused));
+                bytes = search (rules, take-append-drop, append_assoc);
                 stands = record {
                   known = λ silent. reads.stands.known (ap (λ (w : Writing). w.is_silent) (sym reads_token.writing) ∙ silent);
                   lexer = rw (left_is p u given reads) at (rw front at after.1);
@@ -139,8 +118,7 @@ module _ (old : Items) (going : AreGoing old) (count : old.lexer.count ≤ 2 ^ 6
             )
 
         goes_to : (o : Option CodeItem) → LastIs {E = Fault} current (Ok o) → CanGoOn (new None) (Ok o)
-        goes_to None last = record { no_fault = refl; not_finished = going.not_finished; last = last.0; pending = last.1 }
-        goes_to (Some i) last = (refl, going.not_finished, last.0, last.1)
+        goes_to o last = search rules
 
         pub takes_on : TakesBuffered old (new old.fault) (Ok item)
         takes_on = subst (λ (fault : Option Fault). TakesBuffered old (new fault) (Ok item)) (sym going.no_fault) (record {

@@ -1,15 +1,13 @@
 -- White space decides no token.
-use Rattle.pgn_game.proofs.Words.{◌≡◌, ℕ, zero, suc, ◌+◌, ◌==◌, Bool, true, false, ◌&&◌, List, [], ◌∷◌, ◌++◌, codes, if◌then◌else◌, drop, refl, sym, ap, ◌∙◌, arith, append-nil, append_assoc, Token, tokens_of, decided}
+use Rattle.pgn_game.proofs.Words.{◌≡◌, ℕ, zero, suc, ◌+◌, ◌==◌, Bool, true, false, ◌&&◌, List, [], ◌∷◌, ◌++◌, codes, if◌then◌else◌, drop, refl, sym, ap, ◌∙◌, arith, append-nil, append_assoc, Token, tokens_of, decided, rules}
 use Rattle.std.specs.Prelude.{replicate}
 use Rattle.pgn_lexer.specs.Tokens.{end, symbol}
-use Rattle.pgn_lexer.specs.Decided.{common, same_token}
+use Rattle.pgn_lexer.specs.Decided.{common}
 use Rattle.pgn_lexer.specs.TokensOf.{Within, column, outside, has_mark, tokens_from}
 use Rattle.pgn_lexer.specs.WhiteSpace.{white_space}
 
 no_mark : (b : ℕ) (s : List ℕ) → (b == 239) ≡ false → has_mark (b ∷ s) ≡ false
-no_mark b [] is = refl
-no_mark b (x ∷ []) is = refl
-no_mark b (x ∷ y ∷ s) is = ap (λ (c : Bool). c && (x == 187) && (y == 191)) is
+no_mark b s is = search rules
 
 from_start : (s : List ℕ) → has_mark s ≡ false → tokens_of s ≡ tokens_from 0 column s
 from_start s is = ap (λ (b : Bool). elim b [ true ↦ tokens_from 3 column (drop 3 s) | false ↦ tokens_from 0 column s ]) is
@@ -27,12 +25,10 @@ place_in true = column
 place_in false = outside
 
 last_outside : (at : ℕ) (c : Bool) (s : List ℕ) → tokens_from at outside (last_byte c ∷ s) ≡ tokens_from (at + 1) (place_in c) s
-last_outside at true s = refl
-last_outside at false s = refl
+last_outside at c s = search rules
 
 last_column : (c : Bool) (s : List ℕ) → tokens_of (last_byte c ∷ s) ≡ tokens_from 1 (place_in c) s
-last_column true s = from_start (10 ∷ s) (no_mark 10 s refl)
-last_column false s = from_start (32 ∷ s) (no_mark 32 s refl)
+last_column c s = search (rules, from_start, no_mark)
 
 behind_white_space : (n : ℕ) (c : Bool) (s : List ℕ) → tokens_of (white_space (suc n) c ++ s) ≡ tokens_from (suc n) (place_in c) s
 behind_white_space n c s = ap tokens_of (append_assoc (replicate n 32) (last_byte c ∷ []) s) ∙ by n
@@ -51,27 +47,15 @@ abbrev symbol_at : ℕ → List ℕ → Token
 symbol_at at text = record { at = at; kind = symbol text }
 
 not_both : (b : Bool) → (b && false) ≡ false
-not_both true = refl
-not_both false = refl
+not_both b = search rules
 
 none_common : (at : ℕ) (text : List ℕ) (ts us : List Token) → common (end_at at ∷ []) (common (symbol_at at text ∷ ts) us) ≡ []
-none_common at text ts [] = refl
-none_common at text ts (u ∷ us) = by (same_token (symbol_at at text) u)
-  where
-    by : (same : Bool) → common (end_at at ∷ []) (elim same [ true ↦ symbol_at at text ∷ common ts us | false ↦ [] ]) ≡ []
-    by true = ap (λ (b : Bool). elim b [ true ↦ end_at at ∷ common [] (common ts us) | false ↦ [] ]) (not_both (at == at))
-    by false = refl
+none_common at text ts us = search (rules, not_both)
 
 module _ (u : List ℕ) (at : ℕ) (text : List ℕ) (ts : List Token) (ends : tokens_of u ≡ end_at at ∷ [])
     (goes : tokens_of (u ++ codes "1") ≡ symbol_at at text ∷ ts) where
-  abbrev others : List Token
-  others =
-      common (tokens_of (u ++ codes "!")) (common (tokens_of (u ++ codes "\"\"")) (common (tokens_of (u ++ 191 ∷ [])) (tokens_of (u ++ 187 ∷ 191 ∷ []))))
-
   none_decided : decided u ≡ []
-  none_decided =
-      ap (λ (xs : List Token). common xs (common (tokens_of (u ++ codes "1")) others)) ends
-      ∙ ap (λ (xs : List Token). common (end_at at ∷ []) (common xs others)) goes ∙ none_common at text ts others
+  none_decided = search (rules, none_common)
 
 pub spaces_decide_none : (n : ℕ) (c : Bool) → decided (white_space n c) ≡ []
 spaces_decide_none zero c = refl

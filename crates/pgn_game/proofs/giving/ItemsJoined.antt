@@ -1,6 +1,6 @@
 -- What is given of the tokens of a text, call by call.
 use Rattle.std.proofs.lemmas.List.{map-append}
-use Rattle.pgn_game.proofs.Words.{◌-◌, ◌≡◌, ℕ, ◌^◌, ◌≤◌, ◌⊎◌, List, [], ◌∷◌, ◌++◌, map, length, Option, None, Some, refl, sym, ap, subst, ◌∙◌, inl, inr, arith, append-nil, append_assoc, length-append, take_all, Kind, Token, Fault, Stage, InMovetext, Profile, Part, no_progress, Progress, progress_after, going, whole, next, next_in, items_of, marker_of, read, read_from, tokens_of, first, Follows, Consumes, IsAtEnd, Parts, position_at_fault}
+use Rattle.pgn_game.proofs.Words.{◌-◌, ◌≡◌, ℕ, ◌^◌, ◌≤◌, ◌⊎◌, List, [], ◌∷◌, ◌++◌, map, length, Option, None, Some, refl, sym, ap, subst, ◌∙◌, inl, inr, arith, append-nil, append_assoc, length-append, take_all, Kind, Token, Fault, Stage, InMovetext, Profile, Part, no_progress, Progress, progress_after, going, whole, next, next_in, items_of, marker_of, read, read_from, tokens_of, first, Follows, Consumes, Parts, position_at_fault, rules}
 use Rattle.pgn_layout.specs.Device.{Device}
 use Rattle.pgn_lexer.specs.Standing.{coming}
 use Rattle.pgn_game.specs.public.Given.{Given, given_at, given_of, given_of_games, given_of_next, given_of_part, given_with, item, marker, tags}
@@ -65,8 +65,7 @@ given_grows p ts us = grows p no_progress ts us
 -- ---- the tokens read are the first ones of the text
 
 follows_first : (xs ys : List ℕ) → Follows (first xs) (xs ++ ys)
-follows_first [] ys = tt
-follows_first (x ∷ xs) ys = refl
+follows_first xs ys = search rules
 
 first_tokens : (p : Profile) (u rest : List ℕ) (i : Items) (tokens : List Token) → ItemsRead p (Some rest) u i tokens
     → (later : List Token) × (tokens_of (u ++ rest) ≡ tokens ++ later)
@@ -75,14 +74,8 @@ first_tokens p u rest i tokens (calls.within more on) = (
   ap (λ (s : List ℕ). tokens_of (s ++ rest)) on.bytes ∙ ap tokens_of (append_assoc on.used i.unused rest)
       ∙ (before_more i.unused (2 ^ 62 - length on.used) on.stands.lexer).tokens (i.unused ++ rest) (follows_first i.unused rest),
 )
-first_tokens p u rest i tokens (calls.behind more left) = (
-  coming i.lexer [],
-  ap (λ (s : List ℕ). tokens_of (u ++ s)) left.at_end ∙ ap tokens_of (append-nil u) ∙ left.rest,
-)
-first_tokens p u rest i tokens (calls.at_end more place all) = (
-  [],
-  ap (λ (s : List ℕ). tokens_of (u ++ s)) all.at_end ∙ ap tokens_of (append-nil u) ∙ sym all.whole ∙ sym (append-nil tokens),
-)
+first_tokens p u rest i tokens (calls.behind more left) = search (rules, append-nil)
+first_tokens p u rest i tokens (calls.at_end more place all) = search (rules, append-nil)
 
 pub tokens_are_first : TokensAreFirst
 tokens_are_first p u rest i given have = first_tokens p u rest i have.tokens have.reads
@@ -99,23 +92,15 @@ given_is_front p u rest i given have =
 -- the bytes that a call read, and those that are left then
 rest_after : (rest more : List ℕ) (left : Option (List ℕ)) → Consumes (Some rest) left more
     → (after : List ℕ) × (left ≡ Some after) × (rest ≡ more ++ after)
-rest_after rest more None consumed = absurd consumed
-rest_after rest more (Some after) consumed = (after, refl, consumed)
+rest_after rest more left consumed = search rules
 
 -- the whole text was read
 all_read : (p : Profile) (u rest : List ℕ) (given : List Given) (left_new : Option (List ℕ)) (new : Items) (gives : GivesNoItem p u given (Some rest) left_new new)
     → u ++ rest ≡ u ++ gives.more
-all_read p u rest given left_new new gives =
-    let after = rest_after rest gives.more left_new gives.consumed in
-    let ended : after.0 ≡ [] = subst IsAtEnd after.1 gives.all.at_end in
-    ap (λ (s : List ℕ). u ++ s) (after.2 ∙ ap (λ (s : List ℕ). gives.more ++ s) ended ∙ append-nil gives.more)
+all_read p u rest given left_new new gives = search (rules, rest_after, append-nil)
 
 pub end_gives_all : EndGivesAll
-end_gives_all p u rest given left_new new gives =
-    let all = all_read p u rest given left_new new gives in (
-      subst (λ (s : List ℕ). length s ≤ 2 ^ 62) (sym all) gives.all.short,
-      subst (λ (s : List ℕ). GivenAll p s given None) (sym all) (record { whole = gives.whole; fault_is = gives.all.has_read.passes }),
-    )
+end_gives_all p u rest given left_new new gives = search (rules, all_read)
 
 pub end_uses_all : EndUsesAll
 end_uses_all p u rest given left_new new gives = gives.place ∙ ap (length {A = ℕ}) (sym (all_read p u rest given left_new new gives))
@@ -128,15 +113,10 @@ module _ (p : Profile) (u after : List ℕ) (given : List Given) (source : Devic
   stop_gives_all g (calls.at_token f tokens follows fault all_is) =
       let cut = follows after in
       let all : tokens_of (u ++ after) ≡ tokens ++ cut.0 = ap (λ (s : List ℕ). tokens_of (s ++ after)) (sym (take_all (2 ^ 62) u fits)) ∙ cut.1 in
-      let same = ap (read p) all ∙ stops_from p no_progress tokens cut.0 fault in
-      inr (record { whole = ap (λ r. given_of r.progress) same ∙ all_is; fault_is = ap (λ r. r.fault) same ∙ fault })
-  stop_gives_all g (calls.at_end f ended size fault all_is) =
-      let none : after ≡ [] = subst IsAtEnd left ended in
-      let all : u ++ after ≡ u = ap (λ (s : List ℕ). u ++ s) none ∙ append-nil u in
-      inr (subst (λ (s : List ℕ). GivenAll p s given (Some f)) (sym all) (record { whole = all_is; fault_is = fault }))
+      let same = ap (read p) all ∙ stops_from p no_progress tokens cut.0 fault in search rules
+  stop_gives_all g (calls.at_end f ended size fault all_is) = search (rules, append-nil)
   stop_gives_all g (calls.unread counted size passes all_is) = inl (record { reason = refl; counted = counted })
-  stop_gives_all g (calls.too_long front rest is long some passes all_is) =
-      absurd (omega (arith, fits, ap (length {A = ℕ}) is, length-append front rest, long, some))
+  stop_gives_all g (calls.too_long front rest is long some passes all_is) = search (rules, fits, length-append)
 
   stop_position : (f : Fault) (stops : ItemsStop p u given source f)
       → ReadHasFailed source f ⊎ (position_at_items_stop stops ≡ position_at_fault (read p (tokens_of (u ++ after))))
@@ -144,28 +124,21 @@ module _ (p : Profile) (u after : List ℕ) (given : List Given) (source : Devic
       let cut = follows after in
       let all : tokens_of (u ++ after) ≡ tokens ++ cut.0 = ap (λ (s : List ℕ). tokens_of (s ++ after)) (sym (take_all (2 ^ 62) u fits)) ∙ cut.1 in
       inr (sym (ap position_at_fault (ap (read p) all ∙ stops_from p no_progress tokens cut.0 fault)))
-  stop_position g (calls.at_end f ended size fault all_is) =
-      let none : after ≡ [] = subst IsAtEnd left ended in
-      let all : u ++ after ≡ u = ap (λ (s : List ℕ). u ++ s) none ∙ append-nil u in
-      inr (sym (ap (λ (s : List ℕ). position_at_fault (read p (tokens_of s))) all))
+  stop_position g (calls.at_end f ended size fault all_is) = search (rules, append-nil)
   stop_position g (calls.unread counted size passes all_is) = inl (record { reason = refl; counted = counted })
-  stop_position g (calls.too_long front rest is long some passes all_is) =
-      absurd (omega (arith, fits, ap (length {A = ℕ}) is, length-append front rest, long, some))
+  stop_position g (calls.too_long front rest is long some passes all_is) = search (rules, fits, length-append)
 
 pub fault_gives_all : FaultGivesAll
 fault_gives_all p u rest given source new f before short gives =
     let after = rest_after rest gives.more source.after (subst (λ (left : Option (List ℕ)). Consumes left source.after gives.more) before gives.consumed) in
     let all : u ++ rest ≡ (u ++ gives.more) ++ after.0 = ap (λ (s : List ℕ). u ++ s) after.2 ∙ sym (append_assoc u gives.more after.0) in
-    subst (λ (s : List ℕ). ReadHasFailed source f ⊎ GivenAll p s given (Some f)) (sym all)
-    (stop_gives_all p (u ++ gives.more) after.0 given source after.1 (subst (λ (s : List ℕ). length s ≤ 2 ^ 62) all short) f gives.stops)
+    search (rules, stop_gives_all)
 
 pub fault_keeps_position : FaultKeepsPosition
 fault_keeps_position p u rest given source new f before short gives =
     let after = rest_after rest gives.more source.after (subst (λ (left : Option (List ℕ)). Consumes left source.after gives.more) before gives.consumed) in
     let all : u ++ rest ≡ (u ++ gives.more) ++ after.0 = ap (λ (s : List ℕ). u ++ s) after.2 ∙ sym (append_assoc u gives.more after.0) in
-    subst (λ (s : List ℕ). ReadHasFailed source f ⊎ (refused_items_position new ≡ position_at_fault (read p (tokens_of s)))) (sym all)
-    (by (stop_position p (u ++ gives.more) after.0 given source after.1 (subst (λ (s : List ℕ). length s ≤ 2 ^ 62) all short) f gives.stops))
+    search (rules, by, stop_position)
   where
     by : {o : Option Parts} → ReadHasFailed source f ⊎ (position_at_items_stop gives.stops ≡ o) → ReadHasFailed source f ⊎ (refused_items_position new ≡ o)
-    by (inl failed) = inl failed
-    by (inr is) = inr (gives.position ∙ is)
+    by h1 = search rules

@@ -2,8 +2,7 @@
 use Rattle.pgn_lexer.specs.PartialToken.{refusal as refusal_token}
 use Rattle.pgn_lexer.specs.Scanned.{token}
 use Rattle.pgn_lexer.specs.Stands.{Finishes}
-use Rattle.pgn_lexer.specs.Tokens as tokens
-use Rattle.pgn_game.proofs.Words.{◌≡◌, ℕ, ◌≤◌, Bool, true, false, List, [], ◌∷◌, ◌++◌, length, Option, None, Some, Result, Ok, Err, refl, sym, ap, subst, ◌∙◌, arith, append-nil, length-append, false≢true, Kind, Token, Stage, Between, Reason, Lexical, LexFault, Profile, Part, no_part, Progress, progress_with, read, refusal, next, HasLeft, Standing, waiting, fault, HasRead, IsSound, HoldsPairs, Accepted, More, Finished, FinishesAtMarker, is_end, due, torn}
+use Rattle.pgn_game.proofs.Words.{◌≡◌, ℕ, ◌≤◌, Bool, true, false, List, [], ◌∷◌, ◌++◌, length, Option, None, Some, Result, Ok, Err, refl, sym, ap, subst, ◌∙◌, arith, append-nil, length-append, false≢true, Token, Stage, Between, Reason, Lexical, LexFault, Profile, Part, no_part, Progress, read, refusal, HasLeft, Standing, fault, HasRead, IsSound, HoldsPairs, Accepted, FinishesAtMarker, is_end, due, rules}
 use Rattle.pgn_game.specs.export.Text.{text_of}
 use Rattle.pgn_game.specs.declared.item.Item.{Item as CodeItem}
 use Rattle.pgn_game.specs.public.Given.{Given, given_of}
@@ -30,19 +29,13 @@ module _ (p : Profile) (old_lexer : Standing) (old new : Current) (given : List 
   none_begun = subst (λ (s : Stage). HoldsPairs s old.reading.tags b.part) (has_read.agrees.stage ∙ between) has_read.agrees.pairs
 
   end_is : (read p (given ++ t ∷ [])).progress ≡ record { games = b.games; part = no_part }
-  end_is =
-      ap (λ r. r.progress) (read-passes p given t has_read.passes passes)
-      ∙ ap (λ (k : Kind). progress_with b.games (next b.part k)) (is_the_end t.kind is)
-      ∙ ap (λ (part : Part). progress_with b.games (next part tokens.end)) none_begun
+  end_is = search (rules, read-passes, is_the_end, none_begun)
 
   pub same_given : given_of (read p (given ++ t ∷ [])).progress ≡ given_of b
   same_given = ap given_of end_is ∙ ap (λ (part : Part). given_of (record { games = b.games; part = part })) (sym none_begun)
 
   pub due_at_end : due p (given ++ t ∷ []) ≡ text_of p (read p (given ++ t ∷ [])).progress.games
-  due_at_end =
-      ap (λ (q : Progress). text_of p q.games ++ torn p q.part) end_is
-      ∙ ap (λ (xs : List ℕ). text_of p b.games ++ xs) (torn-none p.missing_result p.mode) ∙ append-nil (text_of p b.games)
-      ∙ ap (λ (q : Progress). text_of p q.games) (sym end_is)
+  due_at_end = search (rules, end_is, torn-none, append-nil)
 
 module _ (old_lexer lexer : Standing) (old new : Current) (sound : IsSound old_lexer old.reading old.games false false None) where
   module _ (t : Token) (gives : Finishes old_lexer lexer (token t)) (e : Bool) (is : e ≡ is_end t.kind) where
@@ -53,51 +46,25 @@ module _ (old_lexer lexer : Standing) (old new : Current) (sound : IsSound old_l
     left_is u given left = subst (λ (x : Bool). Left u given x lexer t) (sym is) (left_by u given t.kind lexer t (gives.left u given left))
 
     few_games : (answer : Result Accepted Reason) → games_added answer ≤ 1
-    few_games (Ok Finished) = omega arith
-    few_games (Ok More) = omega arith
-    few_games (Err reason) = omega arith
+    few_games answer = search rules
 
     none_ended : is_end t.kind ≡ true → (answer : Result Accepted Reason) → FinishesAtMarker t.kind new.reading answer → games_added answer ≡ 0
-    none_ended at_end (Ok Finished) finishes = absurd (false≢true (sym (marker_or_end t.kind finishes.0) ∙ at_end))
-    none_ended at_end (Ok More) finishes = refl
-    none_ended at_end (Err reason) finishes = refl
+    none_ended at_end answer finishes = search (rules, false≢true, marker_or_end)
 
     pub reads_last : (item : Option CodeItem) → TakesItem old t.kind new (Ok item) → ReadsLastToken old_lexer old lexer new e (Ok item)
     reads_last item takes = by e is near left_is
       where
         by : (e : Bool) → e ≡ is_end t.kind → Nearer e old_lexer lexer → ((u : List ℕ) (given : List Token) → HasLeft old_lexer u given → Left u given e lexer t)
             → ReadsLastToken old_lexer old lexer new e (Ok item)
-        by false is near left_is = record {
-          after = λ p u given left has_read.
-              (t, left_is u given left, after_item p old_lexer lexer old new given t has_read item takes, takes.is_marker);
-          count = gives.count;
-          last = takes.last;
-          sound = record {
-            count = omega (arith, gives.count, sound.count);
-            few = λ none. omega (arith, near.0, gives.count, sound.few none, takes.games, few_games takes.answer);
-            few_plies = λ none. omega (arith, near.0, gives.count, sound.fewer_plies none refl, takes.takes.keeps.plies);
-            fewer_plies = λ none going. omega (arith, near.0, gives.count, sound.fewer_plies none refl, takes.takes.keeps.plies);
-            between = λ finished. absurd (false≢true finished);
-            no_fault = λ finished. absurd (false≢true finished);
-          };
-          nearer = λ is. near.0;
-        }
+        by false is near left_is = search (rules, after_item, few_games, between, false≢true)
         by true is near left_is = record {
           after = λ p u given left has_read.
               let whole = left_is u given left in
               let after = after_item p old_lexer lexer old new given t has_read item takes in
-              let passes = free p old_lexer lexer old new given t has_read item takes in
-              rw whole (ended p given has_read passes item after);
+              let passes = free p old_lexer lexer old new given t has_read item takes in search (rules, ended);
           count = gives.count;
           last = takes.last;
-          sound = record {
-            count = omega (arith, gives.count, sound.count);
-            few = λ none. omega (arith, ap waiting near, gives.count, sound.few none, takes.games, none_ended (sym is) takes.answer takes.takes.finished);
-            few_plies = λ none. omega (arith, ap waiting near, gives.count, sound.fewer_plies none refl, takes.takes.keeps.plies);
-            fewer_plies = λ none going. absurd (false≢true (sym going));
-            between = λ finished. absurd (false≢true finished);
-            no_fault = λ finished. absurd (false≢true finished);
-          };
+          sound = search (rules, near, none_ended, false≢true, between);
           nearer = λ is. absurd (false≢true (sym is));
         }
           where
@@ -112,8 +79,7 @@ module _ (old_lexer lexer : Standing) (old new : Current) (sound : IsSound old_l
         → ReadsLastToken old_lexer old lexer new e (Err (record { at = t.at; reason = reason }))
     reads_last_refused reason takes = record {
       after = λ p u given left has_read.
-          let rest = tokens_left u given e lexer t (left_is u given left) in
-          (t, rest.0, rest.1, rejected p old_lexer lexer old new given t has_read reason takes);
+          let rest = tokens_left u given e lexer t (left_is u given left) in search (rules, rejected);
       count = gives.count;
       last = takes.last;
       sound = tt;

@@ -1,14 +1,10 @@
 -- What was read and given where a missing Result counts as a text: it is the same where a missing
 -- Result takes the marker.
-use Rattle.pgn_game.proofs.Words.{◌≡◌, ℕ, Bool, true, false, IsTrue, List, [], ◌∷◌, ◌++◌, length, map, sum, Option, None, Some, IsSomeAnd, refl, sym, ap, subst, ◌∙◌, append-nil, false≢true, none-some, Kind, Token, Fault, Reason, Part, Profile, Missing, counts_as, takes_the_marker, counting, with_missing, Progress, no_progress, Read, progress_after, read, read_from, refusal, next, depth, levels_of_part, position_in, mode_unless, Standing, Converter, HasRead, IsSound, Agrees}
+use Rattle.pgn_game.proofs.Words.{◌≡◌, ℕ, Bool, true, false, List, [], ◌∷◌, ◌++◌, Option, None, IsSomeAnd, refl, sym, ap, subst, ◌∙◌, append-nil, false≢true, none-some, Kind, Token, Fault, Part, Profile, Missing, counts_as, takes_the_marker, counting, with_missing, Progress, no_progress, Read, progress_after, read, read_from, refusal, next, Standing, Converter, HasRead, IsSound, rules}
 use Rattle.pgn_game.specs.declared.item.Item.{Item as CodeItem}
-use Rattle.pgn_game.specs.declared.item.Item.TheVariants as items
 use Rattle.pgn_game.specs.export.Text.{text_of}
-use Rattle.pgn_game.specs.games.Levels.{plies_of}
-use Rattle.pgn_game.specs.public.ConverterCalls.{has_played_move}
-use Rattle.pgn_game.specs.public.ConverterCalls as converter_calls
 use Rattle.pgn_game.specs.public.Given.{Given, Shown, given_of, shown}
-use Rattle.pgn_game.specs.public.ItemsCalls.{Current, GiveByMarker, IsHeld, IsShown, Items, ItemsRead, at_end, behind, converter_of, current_by_marker, depth_behind, given_as, given_if, given_next, items_by_marker, position_without, within}
+use Rattle.pgn_game.specs.public.ItemsCalls.{Current, GiveByMarker, IsHeld, IsShown, Items, ItemsRead, at_end, behind, converter_of, current_by_marker, depth_behind, given_if, given_next, items_by_marker, position_without, within}
 use Rattle.pgn_game.specs.public.MostTried.{CostsUnlessRefused, MostFrom, Tries, added}
 use Rattle.pgn_game.specs.public.MostTried as tried
 use Rattle.pgn_game.specs.steps.GameState.{GameState}
@@ -41,13 +37,7 @@ module _ (p : Profile) where
       ∙ reads_alike (progress_after b t) ts (ap (λ (r : Read). r.fault) (sym here) ∙ passes) ∙ sym here
 
   tries_alike : (silent : Bool) (part : Part) (k : Kind) (n : ℕ) → refusal p part k ≡ None → Tries silent p part k n → Tries silent (taking p) part k n
-  tries_alike silent part k n free tries = record {
-    found = tries.found;
-    finds = tries.finds;
-    writes = subst (λ (o : Option Reason). CostsUnlessRefused o (mode_unless silent p.mode) (depth (levels_of_part part)) (position_in part)
-        (added part (next part k)) tries.found n)
-        (free ∙ sym (still_free part k free)) tries.writes;
-  }
+  tries_alike silent part k n free tries = search (rules, still_free)
 
   most_alike : (silent : Bool) (b : Progress) (ts : List Token) (n : ℕ) → (read_from p b ts).fault ≡ None → MostFrom silent p b ts n
       → MostFrom silent (taking p) b ts n
@@ -61,20 +51,7 @@ module _ (p : Profile) where
   by_marker c = record c { reading = record c.reading { profile = taking c.reading.profile } }
 
   reads_by_marker : (c : Converter) (ts : List Token) → HasRead p c ts → HasRead (taking p) (by_marker c) ts
-  reads_by_marker c ts h =
-      let same : read (taking p) ts ≡ read p ts = reads_alike no_progress ts h.passes in
-      record {
-        profile = ap taking h.profile;
-        no_fault = h.no_fault;
-        passes = ap (λ (r : Read). r.fault) same ∙ h.passes;
-        agrees = subst (λ (r : Read). Agrees (by_marker c).reading r.progress.part) (sym same)
-            (agrees_under (taking c.reading.profile) c.reading (read p ts).progress.part refl h.agrees);
-        games = h.games ∙ ap (λ (r : Read). length r.progress.games) (sym same);
-        plies = h.plies ∙ ap (λ (r : Read). sum (map plies_of r.progress.games)) (sym same);
-        probed = λ is. h.probed (subst (λ (r : Read). IsTrue (has_played_move r.progress)) same is);
-        tried = most_alike c.reading.writing.is_silent no_progress ts c.reading.most_probes h.passes h.tried;
-        just_finished = subst (λ (r : Read). converter_calls.IsLast c.just_finished r.progress.games) (sym same) h.just_finished;
-      }
+  reads_by_marker c ts h = search (rules, reads_alike, agrees_under, most_alike)
 
   items_read : (left : Option (List ℕ)) (u : List ℕ) (i : Items) (ts : List Token) → i.current.reading.writing.is_silent ≡ true
       → ItemsRead p left u i ts → ItemsRead (taking p) left u (items_by_marker i) ts
@@ -113,46 +90,20 @@ module _ (c : Current) where
   abbrev then : Current
   then = current_by_marker c
 
-  same_as : (i : CodeItem) → given_as c i ≡ given_as then i
-  same_as items.Tags = refl
-  same_as (items.Move m) = refl
-  same_as (items.Glyph n) = refl
-  same_as items.CommentOpen = refl
-  same_as items.Word = refl
-  same_as items.CommentClose = refl
-  same_as items.Open = refl
-  same_as items.Close = refl
-  same_as (items.Marker m) = refl
-
   same_if : (o : Option CodeItem) → given_if c o ≡ given_if then o
-  same_if None = refl
-  same_if (Some i) = ap (λ (g : Given). g ∷ []) (same_as i)
+  same_if o = search rules
 
   same_position : (o : Option CodeItem) → position_without o then.reading ≡ position_without o c.reading
-  same_position None = refl
-  same_position (Some items.Tags) = refl
-  same_position (Some (items.Move m)) = refl
-  same_position (Some (items.Glyph n)) = refl
-  same_position (Some items.CommentOpen) = refl
-  same_position (Some items.Word) = refl
-  same_position (Some items.CommentClose) = refl
-  same_position (Some items.Open) = refl
-  same_position (Some items.Close) = refl
-  same_position (Some (items.Marker m)) = refl
+  same_position o = search rules
 
   same_depth : (last next : Option CodeItem) → depth_behind last next then.reading ≡ depth_behind last next c.reading
-  same_depth None next = refl
-  same_depth (Some i) None = refl
-  same_depth (Some i) (Some next) = refl
+  same_depth last next = search rules
 
   shows_alike : (o : Option Shown) → IsSomeAnd o (IsShown c) → IsSomeAnd o (IsShown then)
-  shows_alike None h = h
-  shows_alike (Some s) h =
-      record { pairs = h.pairs; position = same_position c.pending ∙ h.position; depth = same_depth c.last c.pending ∙ h.depth }
+  shows_alike o h = search (rules, same_position, same_depth)
 
   holds_alike : (o : Option Shown) → IsSomeAnd o (IsHeld c) → IsSomeAnd o (IsHeld then)
-  holds_alike None h = h
-  holds_alike (Some s) h = record { pairs = h.pairs; text = h.text }
+  holds_alike o h = search rules
 
 pub gives_by_marker : (i : Items) → i.current.reading.writing.is_silent ≡ true → GiveByMarker i (items_by_marker i)
 gives_by_marker i silent p left u given have =
@@ -164,23 +115,13 @@ gives_by_marker i silent p left u given have =
           ∙ ap (λ (gs : List Given). given ++ gs) next;
       behind = have.behind;
       shows = λ some. shows_alike i.current (shown given) (have.shows some);
-      holds = λ some. subst (λ (gs : List Given). IsSomeAnd (shown (given ++ gs)) (IsHeld (current_by_marker i.current))) next
-          (holds_alike i.current (shown (given ++ given_next i.current)) (have.holds some));
+      holds = search (rules, holds_alike);
       marker_ends = have.marker_ends;
     }
   where
     passes : ItemsRead p left u i have.tokens → (read p have.tokens).fault ≡ None
-    passes (within more on) = on.stands.has_read.passes
-    passes (behind all rest) = rest.has_read.passes
-    passes (at_end is place all) = all.has_read.passes
+    passes h1 = search rules
 
 pub sound_by_marker : (lexer : Standing) (r : GameState) (games : ℕ) (is_finished : Bool) (fault : Option Fault)
     → IsSound lexer r games false is_finished fault → IsSound lexer (record r { profile = taking r.profile }) games false is_finished fault
-sound_by_marker lexer r games is_finished fault sound = record {
-  count = sound.count;
-  few = sound.few;
-  few_plies = sound.few_plies;
-  fewer_plies = sound.fewer_plies;
-  between = sound.between;
-  no_fault = sound.no_fault;
-}
+sound_by_marker lexer r games is_finished fault sound = search rules

@@ -1,8 +1,8 @@
 -- From what a token means to what its game answers, if nothing is written.
 use Rattle.std.proofs.lemmas.List.{map-append}
-use Rattle.pgn_game.proofs.Words.{◌≡◌, ◌↔◌, ◌&&◌, ℕ, Bool, true, false, IsTrue, List, [], ◌++◌, map, codes, decimal, Option, None, Some, Result, Ok, Err, refl, sym, ap, subst, ◌∙◌, arith, append-nil, Kind, Reason, Stage, Between, AfterLeftBracket, AfterName, AfterValue, AfterTags, InMovetext, Move, Part, Pair, Item, Marker, marker_text, marker_of, Event, Means, GameState, IsAnnotation, BeginsText, GameCall, Refuses, RefusesMarker, TakesEntry, TakesMarker, IsEntry, EndsAtMarker, going, whole, next, with_items, game_of, game_by, is_begun, items_meant, pairs_meant, after_move_at, may_have_movetext, has_whole_pairs, More, EntersMovetext, TakesOutside, IsOutside, Agrees, Leads, unused}
+use Rattle.pgn_game.proofs.Words.{◌≡◌, ◌↔◌, ◌&&◌, ℕ, Bool, false, IsTrue, List, [], ◌++◌, map, codes, decimal, Option, None, Some, Result, Ok, Err, refl, sym, ap, subst, ◌∙◌, arith, append-nil, Kind, Reason, Stage, InMovetext, Move, Part, Marker, marker_text, marker_of, Event, Means, GameState, IsAnnotation, BeginsText, GameCall, Refuses, RefusesMarker, TakesEntry, TakesMarker, IsEntry, EndsAtMarker, going, next, with_items, is_begun, items_meant, pairs_meant, after_move_at, may_have_movetext, has_whole_pairs, More, EntersMovetext, TakesOutside, IsOutside, Agrees, Leads, unused, rules}
 use Rattle.pgn_layout.specs.declared.sink.WriteFault.{WriteFault as Fault}
-use Rattle.pgn_game.specs.public.Given.{Given, item, given_of_next, given_at, given_with}
+use Rattle.pgn_game.specs.public.Given.{item, given_of_next, given_at}
 use Rattle.pgn_game.specs.declared.event.Event.TheVariants as events
 use Rattle.pgn_game.specs.steps.Accepted.{Accepts, AcceptsEntry, IsSoundEvent, MeansItems, answer_of, given_for, no_writer, some_event, without_writer}
 use Rattle.pgn_game.proofs.putting.EndToGame.{marker_refused, marker_taken}
@@ -17,8 +17,7 @@ abbrev failures : Unit {0} → ℕ
 failures x = 0
 
 pub after_none : (stage : Stage) → after_move_at stage false ≡ false
-after_none InMovetext = refl
-after_none _ = refl
+after_none stage = search rules
 
 -- nothing was written before
 pub no_flag : (judge : GameState) → no_writer ≡ record no_writer { is_after_move = after_move_at judge.stage no_writer.is_after_move }
@@ -29,16 +28,7 @@ module _ (old judge : GameState) (k : Kind) (e : Event) (means : Means old k jud
   begun = record judge { stage = InMovetext }
 
   begins : BeginsText {A = Unit {0}} {E = Fault} (without_writer judge) (without_writer begun) (Ok tt) (unused None 0)
-  begins = record {
-    text = tt;
-    begun = ap (λ (b : Bool). record (game_by no_writer begun) { text = record judge.text { is_after_move = b } }) (sym (after_none judge.stage));
-    profile = refl;
-    writing = refl;
-    earlier = refl;
-    plies = refl;
-    probes = refl;
-    counted = refl;
-  }
+  begins = search (rules, after_none)
 
   call : GameCall taken failures (without_writer judge) (without_writer begun) tt tt
       (BeginsText {A = Unit {0}} {E = Fault} (without_writer judge) (without_writer begun) (Ok tt))
@@ -62,8 +52,7 @@ module _ (old judge : GameState) (k : Kind) (e : Event) (means : Means old k jud
       (move_taken taken failures no_writer no_writer old judge begun k e means at tt tt call refl refl (no_flag judge) no_writer tt begun m n is
       (record {
         tried = n;
-        writes = λ here before.
-            record { puts = record { text = tt; held = refl; each = λ i d h. absurd (omega (arith, h)); counted = refl }; writer = refl; after = refl; tried = refl; rises = (omega arith, omega arith) };
+        writes = search rules;
         counts = λ few. ap (λ (most : ℕ). record begun { most_probes = most }) (omega (arith, few));
         written = refl;
         silent = λ silent. refl;
@@ -86,32 +75,10 @@ module _ (old judge : GameState) (k : Kind) (e : Event) (means : Means old k jud
         by (events.Marker m) is = absurd (plain m is)
 
     given_plain : given_for e ≡ map item (items_meant e)
-    given_plain = by e refl
-      where
-        by : (x : Event) → e ≡ x → given_for x ≡ map item (items_meant x)
-        by (events.Marker m) is = absurd (plain m is)
-        by events.Number is = refl
-        by (events.Move m n) is = refl
-        by (events.Glyph n) is = refl
-        by events.CommentOpen is = refl
-        by (events.Word text) is = refl
-        by events.CommentClose is = refl
-        by events.Open is = refl
-        by events.Close is = refl
+    given_plain = search rules
 
     more_answer : answer_of (Ok (Some e)) ≡ Ok More
-    more_answer = by e refl
-      where
-        by : (x : Event) → e ≡ x → answer_of (Ok (Some x)) ≡ Ok More
-        by (events.Marker m) is = absurd (plain m is)
-        by events.Number is = refl
-        by (events.Move m n) is = refl
-        by (events.Glyph n) is = refl
-        by events.CommentOpen is = refl
-        by (events.Word text) is = refl
-        by events.CommentClose is = refl
-        by events.Open is = refl
-        by events.Close is = refl
+    more_answer = search rules
 
     -- what is given for it
     means_items : (part : Part) → IsEntry (without_writer old) k part → MeansItems part k begun e
@@ -119,37 +86,13 @@ module _ (old judge : GameState) (k : Kind) (e : Event) (means : Means old k jud
         let to : next part k ≡ going (with_items part (items_meant e)) = entry.leads ∙ (means.says no_writer part entry.is_open).1 in
         let leads = (event_more.accepts part entry).leads in
         let agrees : Agrees (without_writer begun) (with_items part (items_meant e)) = subst (λ x. Leads x More (without_writer begun)) to leads in
-        let held = agrees.text.0 in
-        record {
-          given = ap given_of_next to ∙ ap (λ (gs : List Given). given_with part.pairs [] ++ gs) (map-append item part.items (items_meant e))
-              ∙ ap (λ (gs : List Given). given_with part.pairs part.items ++ gs) (sym given_plain);
-          pairs = ap (λ (r : GameState). r.tags.held) means.after ∙ ap (λ t. t.held) entry.is_open.pairs;
-          text = record { levels = held.levels; plies = held.plies; held = refl };
-        }
+        let held = agrees.text.0 in search (rules, map-append, given_plain)
 
     sound_event : IsSoundEvent begun e
-    sound_event = by e refl
-      where
-        by : (x : Event) → e ≡ x → IsSoundEvent begun x
-        by (events.Move m n) is =
-            let played = subst (λ (x : Event). Means old k judge x) is means in
-            rw played.text.levels played.text.leads
-        by (events.Word text) is = (subst (λ (x : Event). Means old k judge x) is means).fits
-        by events.Number is = tt
-        by (events.Glyph n) is = tt
-        by events.CommentOpen is = tt
-        by events.CommentClose is = tt
-        by events.Open is = tt
-        by events.Close is = tt
-        by (events.Marker m) is = tt
+    sound_event = search rules
 
     pub event_accepted : AcceptsEntry old k begun (Ok e)
-    event_accepted = record {
-      takes = rw more_answer event_more;
-      gives = means_items;
-      sound = sound_event;
-      whole = refl;
-    }
+    event_accepted = search (rules, more_answer, event_more, means_items, sound_event)
 
 -- A row of the table rejects the token.
 pub event_refused : {old new : GameState} {k : Kind} {reason : Reason} → Refuses old k new reason → AcceptsEntry old k new (Err reason)
@@ -157,16 +100,10 @@ event_refused h = record { takes = h.takes no_writer None 0; gives = λ part ent
 
 -- whether movetext has begun
 begun_is : (stage : Stage) → IsTrue (is_begun stage) ↔ (stage ≡ InMovetext)
-begun_is InMovetext = (λ b. refl, λ b. refl)
-begun_is Between = (λ b. absurd (cc), λ b. absurd (cc))
-begun_is AfterLeftBracket = (λ b. absurd (cc), λ b. absurd (cc))
-begun_is AfterName = (λ b. absurd (cc), λ b. absurd (cc))
-begun_is AfterValue = (λ b. absurd (cc), λ b. absurd (cc))
-begun_is AfterTags = (λ b. absurd (cc), λ b. absurd (cc))
+begun_is stage = search rules
 
 and_false : (b : Bool) → false ≡ (b && false)
-and_false true = refl
-and_false false = refl
+and_false b = search rules
 
 -- A marker.
 module _ (old new : GameState) (k : Kind) (marker : Marker) (is : marker_of k ≡ Some (marker_text marker)) where
@@ -189,30 +126,14 @@ module _ (old new : GameState) (k : Kind) (marker : Marker) (is : marker_of k �
     pub end_accepted : AcceptsEntry old k new (Ok (events.Marker marker))
     end_accepted = record {
       takes = ends.takes k is;
-      gives = λ part entry.
-          let to : next part k ≡ whole (game_of part (marker_text marker)) = entry.leads ∙ marker_whole part k (marker_text marker) is in
-          let held = entry.is_open.held in
-          record {
-            given = ap given_of_next to;
-            pairs = ap (λ (r : GameState). r.tags.held) h.after ∙ ap (λ t. t.held) entry.is_open.pairs;
-            text = rw (append-nil part.items) (record {
-              levels = ap (λ (r : GameState). r.text.levels) h.after ∙ held.levels;
-              plies = ap (λ (r : GameState). r.text.plies) h.after ∙ held.plies;
-              held = refl;
-            });
-          };
+      gives = search (rules, marker_whole, append-nil);
       sound = tt;
       whole = ap (λ (r : GameState). has_whole_pairs r.stage) h.after;
     }
 
 -- A token that is taken outside movetext, or that belongs to it.
 not_begun : (stage : Stage) (part : Part) → is_begun stage ≡ false → given_at stage part ≡ []
-not_begun InMovetext part h = absurd (cc)
-not_begun Between part h = refl
-not_begun AfterLeftBracket part h = refl
-not_begun AfterName part h = refl
-not_begun AfterValue part h = refl
-not_begun AfterTags part h = refl
+not_begun stage part h = search rules
 
 module _ {old new : GameState} {k : Kind} where
   pub outside_accepted : TakesOutside (without_writer old) k (without_writer new) (Some (Ok More)) → IsOutside old.stage new.stage (Some (Ok More))
@@ -228,8 +149,7 @@ module _ {old new : GameState} {k : Kind} where
   }
     where
       gone : (to : _) → Leads to More (without_writer new) → given_of_next to ≡ []
-      gone (going after) leads = subst (λ (s : Stage). given_at s after ≡ []) leads.stage (not_begun new.stage after outside.1)
-      gone (whole g) leads = absurd leads
+      gone to leads = search (rules, not_begun)
 
   pub outside_refused : {reason : Reason} → TakesOutside (without_writer old) k (without_writer new) (Some (Err reason)) → Accepts old k new (Err reason)
   outside_refused takes = record { takes = takes None 0; gives = λ part agrees. tt; sound = tt; whole = tt }
@@ -245,16 +165,7 @@ module _ (old ready : GameState) (k : Kind) (enters : EntersMovetext (without_wr
   }
   entry_accepted {new} (Ok event) entry = record {
     takes = enters.takes (without_writer new) (answer_of (Ok (Some event))) (unused None 0) entry.takes;
-    gives = λ part agrees.
-        let e = enters.enters part agrees in
-        let gives = entry.gives e.opened e.entry in
-        record {
-          given = ap given_of_next (e.next ∙ sym e.entry.leads) ∙ gives.given
-              ∙ ap (λ (ps : List Pair). given_with ps e.opened.items ++ given_for event) e.pairs
-              ∙ ap (λ (is : List Item). given_with part.pairs is ++ given_for event) e.items;
-          pairs = gives.pairs ∙ e.pairs;
-          text = rw (e.pairs, e.items) at gives.text;
-        };
+    gives = search rules;
     sound = entry.sound;
     whole = entry.whole;
   }

@@ -1,15 +1,13 @@
 -- What is given of a source, call by call.
-use Rattle.pgn_game.proofs.Words.{◌≡◌, ℕ, ◌^◌, ◌≤◌, ◌⊎◌, ◌||◌, length-map, Bool, true, false, IsTrue, is_some, List, [], ◌∷◌, ◌++◌, length, fold-append, Option, None, Some, IsSomeAnd, Result, Ok, Err, refl, sym, ap, subst, ◌∙◌, arith, inl, inr, append-nil, append_assoc, append_cancel_left, coming, EndsAt, Parts, SymbolsStandInText, false≢true, none-some, Consumes, Consumes-kept, Consumes-nil, Consumes-trans, one_more, IsAtEnd, Token, Fault, Profile, no_progress, Pair, HasLeft, Stands, first, HasRead, HasReadAll, Standing, decided, read, here, levels_of, start_of, StoredLevels, tokens_of}
+use Rattle.pgn_game.proofs.Words.{◌≡◌, ℕ, ◌^◌, ◌≤◌, ◌⊎◌, ◌||◌, length-map, Bool, true, false, IsTrue, is_some, List, [], ◌∷◌, ◌++◌, length, fold-append, Option, None, Some, IsSomeAnd, Result, Ok, Err, refl, sym, ap, subst, ◌∙◌, arith, inl, inr, append-nil, append_assoc, append_cancel_left, coming, EndsAt, Parts, SymbolsStandInText, false≢true, none-some, Consumes, Consumes-kept, Consumes-nil, Consumes-trans, one_more, IsAtEnd, Token, Fault, Profile, Pair, HasLeft, Stands, first, HasRead, HasReadAll, Standing, decided, read, here, levels_of, start_of, StoredLevels, tokens_of, rules}
 use Rattle.std.specs.Io.KnownBytes.{Keeps}
 use Rattle.pgn_game.specs.declared.item.Item.{Item as CodeItem}
-use Rattle.pgn_game.specs.declared.item.Item.TheVariants as items
 use Rattle.pgn_game.specs.declared.reason.Reason.TheVariants.{ReadFault}
 use Rattle.pgn_game.specs.games.Progress.{position_at_fault}
 use Rattle.pgn_game.specs.public.ConverterCalls.{reported_position}
 use Rattle.pgn_game.specs.public.GamesCalls.{HasReadWithin}
-use Rattle.pgn_game.specs.public.Given.{Given, Shown, given_of, shown, shown_with, tags}
-use Rattle.pgn_game.specs.public.ItemsCalls.{AfterItem, Current, EndsWithMarker, GivesFault, GivesItem, GivesNoItem, HasRest, HaveGiven, IsBehindTags, IsHeld, IsShown, Items, ItemsRead, ItemsStop, MarkersEndAt, ReadsNoSooner, at_end, at_token, behind, converter_of, games_of_items, given_as, given_if, given_next, depth_behind, has_read_marker, is_marker_item, position_at_items_stop, position_without, refused_items_position, shown_depth, too_long, unread, within}
-use Rattle.pgn_game.specs.steps.Movetext.{stored_level}
+use Rattle.pgn_game.specs.public.Given.{Given, Shown, given_of, shown, shown_with}
+use Rattle.pgn_game.specs.public.ItemsCalls.{AfterItem, Current, EndsWithMarker, GivesFault, GivesItem, GivesNoItem, HaveGiven, IsBehindTags, IsHeld, IsShown, Items, ItemsRead, ItemsStop, MarkersEndAt, ReadsNoSooner, at_end, at_token, behind, converter_of, games_of_items, given_as, given_if, given_next, depth_behind, has_read_marker, position_at_items_stop, position_without, refused_items_position, shown_depth, too_long, unread, within}
 use Rattle.pgn_game.specs.steps.ItemsSteps as steps
 use Rattle.pgn_game.specs.steps.ItemsSteps.{AfterLastToken, AreGoing, FillsItems, ItemsSoFar, ReadsLastToken, Rejects, RestSoFar, StopsInBuffer, TakesAtEnd, TakesBuffered, still_at, giving_next, reads_as}
 use Rattle.pgn_game.proofs.stepping.AcceptedToConverter.{read_as}
@@ -32,57 +30,15 @@ held_here c s held = ap (λ (ls : StoredLevels). ls.current.position) held.text.
 -- Behind the tags an item is given next: the game is still at its first position.
 first_here : (c : Current) (i : CodeItem) (ps : List Pair) → IsSomeAnd (shown_with (Some (record { pairs = ps; items = []; marker = None })) (given_as c i)) (IsHeld c)
     → c.reading.tags.held ≡ ps → position_without (Some i) c.reading ≡ start_of ps
-first_here c items.Tags ps held is = held_here c _ held ∙ ap start_of is
-first_here c (items.Move m) ps held is =
-    ap (λ (ls : StoredLevels). Rattle.std.specs.Prelude.unwrap_or ls.current.before ls.current.position) held.text.levels
-first_here c (items.Glyph n) ps held is = held_here c _ held
-first_here c items.CommentOpen ps held is = held_here c _ held
-first_here c items.Word ps held is = held_here c _ held
-first_here c items.CommentClose ps held is = held_here c _ held
-first_here c items.Open ps held is = held_here c _ held
-first_here c items.Close ps held is = held_here c _ held
-first_here c (items.Marker m) ps held is = held_here c _ held
+first_here c i ps held is = search (rules, held_here)
 
 -- What is held with the item that is given next shows what was given.
 module _ (c : Current) (i : CodeItem) (given : List Given) (last : c.last ≡ Some i) (held : IsSomeAnd (shown ((given ++ given_as c i ∷ []) ++ given_next c)) (IsHeld c)) where
   depth_is : (next : Option CodeItem) → c.pending ≡ next → shown_depth c ≡ depth_behind (Some i) next c.reading
-  depth_is next is =
-      ap (λ (o : Option CodeItem). depth_behind o c.pending c.reading) last ∙ ap (λ (o : Option CodeItem). depth_behind (Some i) o c.reading) is
+  depth_is next is = search rules
 
   shows_by : (next : Option CodeItem) → c.pending ≡ next → IsBehindTags next c.last → IsSomeAnd (shown (given ++ given_as c i ∷ [])) (IsShown c)
-  shows_by None is at =
-      let all : (given ++ given_as c i ∷ []) ++ given_next c ≡ given ++ given_as c i ∷ [] =
-      ap (λ (o : Option CodeItem). (given ++ given_as c i ∷ []) ++ given_if c o) is ∙ append-nil (given ++ given_as c i ∷ []) in
-      plain (shown (given ++ given_as c i ∷ [])) (subst (λ (gs : List Given). IsSomeAnd (shown gs) (IsHeld c)) all held)
-    where
-      plain : (o : Option Shown) → IsSomeAnd o (IsHeld c) → IsSomeAnd o (IsShown c)
-      plain None h = h
-      plain (Some s) h = record {
-        pairs = h.pairs;
-        position = ap (λ (next : Option CodeItem). position_without next c.reading) is ∙ held_here c s h;
-        depth = depth_is None is ∙ ap (λ (ls : StoredLevels). length ls.around) h.text.levels ∙ length-map (levels_of s.items).around (stored_level (start_of s.pairs));
-      }
-  shows_by (Some next) is at =
-      let tags_last : i ≡ items.Tags = same_Some i items.Tags (sym last ∙ at) in
-      let first : given_as c i ≡ tags c.reading.tags.held = ap (given_as c) tags_last in
-      let before : shown (given ++ given_as c i ∷ []) ≡ Some (record { pairs = c.reading.tags.held; items = []; marker = None }) =
-      shown-snoc given (given_as c i) ∙ ap (shown_with (shown given)) first ∙ tags_shown (shown given) in
-      let all : shown ((given ++ given_as c i ∷ []) ++ given_next c) ≡ shown_with (Some (record { pairs = c.reading.tags.held; items = []; marker = None })) (given_as c next) =
-      ap (λ (o : Option CodeItem). shown ((given ++ given_as c i ∷ []) ++ given_if c o)) is ∙ shown-snoc (given ++ given_as c i ∷ []) (given_as c next)
-      ∙ ap (λ (s : Option Shown). shown_with s (given_as c next)) before in
-      subst (λ (s : Option Shown). IsSomeAnd s (IsShown c)) (sym before) (record {
-        pairs = refl;
-        position = ap (λ (o : Option CodeItem). position_without o c.reading) is
-            ∙ first_here c next c.reading.tags.held (subst (λ (s : Option Shown). IsSomeAnd s (IsHeld c)) all held) refl;
-        depth = depth_is (Some next) is;
-      })
-    where
-      same_Some : (a b : CodeItem) → Some a ≡ Some b → a ≡ b
-      same_Some a b h = cc
-
-      tags_shown : (s : Option Shown) → shown_with s (tags c.reading.tags.held) ≡ Some (record { pairs = c.reading.tags.held; items = []; marker = None })
-      tags_shown None = refl
-      tags_shown (Some s) = refl
+  shows_by next is at = search (rules, append-nil, held_here, depth_is, length-map, shown-snoc, first_here)
 
   pub shows_given : IsBehindTags c.pending c.last → IsSomeAnd (shown (given ++ given_as c i ∷ [])) (IsShown c)
   shows_given at = shows_by c.pending refl at
@@ -93,19 +49,7 @@ pub gives_one : (p : Profile) (u : List ℕ) (given : List Given) (left : Option
     → steps.HoldsShown (given_of (read p tokens).progress) new.current → new.current.last ≡ Some i → IsBehindTags new.current.pending new.current.last
     → (IsTrue (has_read_marker new.current) → EndsWithMarker tokens new.lexer.count)
     → HaveGiven p left u new (given ++ given_as new.current i ∷ [])
-gives_one p u given left new i tokens reads all holds last at ends =
-    let whole : given_of (read p tokens).progress ≡ (given ++ given_as new.current i ∷ []) ++ given_next new.current =
-    all ∙ sym (append_assoc given (given_as new.current i ∷ []) (given_next new.current)) in
-    let held = subst (λ (gs : List Given). IsSomeAnd (shown gs) (IsHeld new.current)) whole holds.holds in
-    record {
-      tokens = tokens;
-      reads = reads;
-      whole = whole;
-      behind = at;
-      shows = λ some. shows_given new.current i given last held at;
-      holds = λ some. held;
-      marker_ends = ends;
-    }
+gives_one p u given left new i tokens reads all holds last at ends = search (rules, append_assoc, shows_given)
 
 -- the position in which a move was rejected, by the fault that is kept
 pub refused_if : (i : Items) (f : Fault) → i.fault ≡ Some f → refused_items_position i ≡ reported_position i.current.reading f.reason
@@ -121,17 +65,14 @@ none_shown i going some = false≢true (subst (λ (o : Option CodeItem). is_some
 
 pub reads_within : (p : Profile) (left : Option (List ℕ)) (u : List ℕ) (i : Items) (tokens : List Token) → i.has_read_all ≡ false → i.is_finished ≡ false
     → ItemsRead p left u i tokens → HasReadWithin p u (games_of_items i) tokens
-reads_within p left u i tokens more going (within is on) = on
-reads_within p left u i tokens more going (behind is rest) = absurd (false≢true (sym more ∙ is))
-reads_within p left u i tokens more going (at_end is place all) = absurd (false≢true (sym going ∙ is))
+reads_within p left u i tokens more going h1 = search (rules, false≢true)
 
 pub so_far_none : (old : Items) (left : Option (List ℕ)) → AreGoing old → old.has_read_all ≡ false → steps.HasReadSoFar old old left left
 so_far_none old left going more p u given have = record {
   more = [];
   consumed = Consumes-nil left;
   tokens = have.tokens;
-  reads = subst (λ (v : List ℕ). HasReadWithin p v (games_of_items old) have.tokens) (sym (append-nil u))
-      (reads_within p left u old have.tokens more going.not_finished have.reads);
+  reads = search (rules, append-nil, reads_within);
   whole = have.whole ∙ nothing_next old given going;
   no_sooner = inl refl;
 }
@@ -139,18 +80,10 @@ so_far_none old left going more p u given have = record {
 module _ (p : Profile) (u : List ℕ) (given : List Given) (left_old left_now : Option (List ℕ)) (now : Items) (so : ItemsSoFar p u given left_old left_now now) where
   -- where no byte is left, the tokens are those that the bytes decide
   decided_now : now.unused ≡ [] → given_of (read p (decided (u ++ so.more))).progress ≡ given
-  decided_now none =
-      let used : so.reads.used ≡ u ++ so.more = sym (append-nil so.reads.used) ∙ ap (λ (xs : List ℕ). so.reads.used ++ xs) (sym none) ∙ sym so.reads.bytes in
-      let all : so.tokens ≡ decided so.reads.used =
-      decided_by_used so.reads.used now.unused so.tokens (none_ahead so.reads.used now.unused none) so.reads.decided in
-      ap (λ (ts : List Token). given_of (read p ts).progress) (sym (all ∙ ap decided used)) ∙ so.whole
+  decided_now none = search (rules, append-nil, decided_by_used, none_ahead)
 
   passes_now : now.unused ≡ [] → (read p (decided (u ++ so.more))).fault ≡ None
-  passes_now none =
-      let used : so.reads.used ≡ u ++ so.more = sym (append-nil so.reads.used) ∙ ap (λ (xs : List ℕ). so.reads.used ++ xs) (sym none) ∙ sym so.reads.bytes in
-      let all : so.tokens ≡ decided so.reads.used =
-      decided_by_used so.reads.used now.unused so.tokens (none_ahead so.reads.used now.unused none) so.reads.decided in
-      subst (λ (ts : List Token). (read p ts).fault ≡ None) (all ∙ ap decided used) so.reads.stands.has_read.passes
+  passes_now none = search (rules, append-nil, decided_by_used, none_ahead)
 
   module _ (left_new : Option (List ℕ)) (new : Items) where
     -- bytes came
@@ -158,35 +91,16 @@ module _ (p : Profile) (u : List ℕ) (given : List Given) (left_old left_now : 
     filled fills = by fills.empty
       where
         by : (fills.more ≡ []) ⊎ (now.unused ≡ []) → ItemsSoFar p u given left_old left_new new
-        by (inl none) =
-            let same : new ≡ now = fills.new_is ∙ ap (λ (xs : List ℕ). record now { unused = now.unused ++ xs }) none
-            ∙ ap (λ (xs : List ℕ). record now { unused = xs }) (append-nil now.unused) in
-            rw same (record {
-              more = so.more;
-              consumed = subst (Consumes left_old left_new) (append-nil so.more)
-                  (Consumes-trans left_old left_now left_new so.more [] so.consumed (subst (Consumes left_now left_new) none fills.consumed));
-              tokens = so.tokens;
-              reads = so.reads;
-              whole = so.whole;
-              no_sooner = so.no_sooner;
-            })
+        by (inl none) = search (rules, append-nil, Consumes-trans)
         by (inr empty) =
             let same : new ≡ record now { unused = fills.more } = fills.new_is ∙ ap (λ (xs : List ℕ). record now { unused = xs ++ fills.more }) empty in
             let used : so.reads.used ≡ u ++ so.more = sym (append-nil so.reads.used) ∙ ap (λ (xs : List ℕ). so.reads.used ++ xs) (sym empty) ∙ sym so.reads.bytes in
-            let all : so.tokens ≡ decided so.reads.used =
-            decided_by_used so.reads.used now.unused so.tokens (none_ahead so.reads.used now.unused empty) so.reads.decided in
+            let all : so.tokens ≡ decided so.reads.used = search (rules, decided_by_used, none_ahead) in
             rw same (record {
               more = so.more ++ fills.more;
               consumed = Consumes-trans left_old left_now left_new so.more fills.more so.consumed fills.consumed;
               tokens = so.tokens;
-              reads = record {
-                used = so.reads.used;
-                bytes = sym (append_assoc u so.more fills.more) ∙ ap (λ (xs : List ℕ). xs ++ fills.more) (sym used);
-                stands = stands_before_any
-                    (subst (λ (xs : List ℕ). Stands p (converter_of now) so.reads.used (first xs) so.tokens) (none_ahead so.reads.used now.unused empty) so.reads.stands);
-                decided = inl all;
-                not_finished = so.reads.not_finished;
-              };
+              reads = search (rules, append_assoc, stands_before_any, none_ahead);
               whole = so.whole;
               no_sooner = inr (so.more, fills.more, refl, fills.few, decided_now empty);
             })
@@ -194,15 +108,7 @@ module _ (p : Profile) (u : List ℕ) (given : List Given) (left_old left_now : 
     -- a token of them gave nothing
     pub took_none : TakesBuffered now new (Ok None) → left_new ≡ left_now → ItemsSoFar p u given left_old left_new new
     took_none takes same =
-        let after = takes.after p (u ++ so.more) so.tokens so.reads in
-        rw same (record {
-          more = so.more;
-          consumed = so.consumed;
-          tokens = after.0;
-          reads = after.1;
-          whole = after.2.gives ∙ append-nil (given_of (read p so.tokens).progress) ∙ so.whole;
-          no_sooner = so.no_sooner;
-        })
+        let after = takes.after p (u ++ so.more) so.tokens so.reads in search (rules, append-nil)
 
     -- it gave an item
     pub took_item : (i : CodeItem) → now.has_read_all ≡ false → TakesBuffered now new (Ok (Some i)) → GivesItem p u given left_old left_now new i
@@ -247,8 +153,7 @@ module _ (p : Profile) (u : List ℕ) (given : List Given) (left_old left_now : 
         → Keeps left_now left_new → new.current ≡ now.current → AreGoing now → now.lexer.count ≤ 2 ^ 62 → (failures : ℕ)
         → GivesFault p u given (record { before = left_old; after = left_new; failures = failures; failures_after = one_more failures }) new f
     read_failed none going f is kept keeps same at short failures =
-        let used : length so.reads.used ≡ length (u ++ so.more) =
-        ap (length {A = ℕ}) (sym (append-nil so.reads.used) ∙ ap (λ (xs : List ℕ). so.reads.used ++ xs) (sym none) ∙ sym so.reads.bytes) in
+        let used : length so.reads.used ≡ length (u ++ so.more) = search (rules, append-nil) in
         let place : now.lexer.count ≡ length (u ++ so.more) = so.reads.stands.lexer.count ∙ used in
         record {
           more = so.more;
@@ -262,10 +167,7 @@ module _ (p : Profile) (u : List ℕ) (given : List Given) (left_old left_now : 
         }
       where
         place_short : length (u ++ so.more) ≤ 2 ^ 62
-        place_short =
-            let used : length so.reads.used ≡ length (u ++ so.more) =
-            ap (length {A = ℕ}) (sym (append-nil so.reads.used) ∙ ap (λ (xs : List ℕ). so.reads.used ++ xs) (sym none) ∙ sym so.reads.bytes) in
-            omega (arith, so.reads.stands.lexer.count ∙ used, short)
+        place_short = search (rules, append-nil)
 
         stops_by : (g : Fault) → g ≡ record { at = length (u ++ so.more); reason = ReadFault }
             → (stops : ItemsStop p (u ++ so.more) given (record { before = left_old; after = left_new; failures = failures; failures_after = one_more failures }) g)
@@ -276,9 +178,7 @@ module _ (p : Profile) (u : List ℕ) (given : List Given) (left_old left_now : 
             (unread refl place_short (passes_now none) (decided_now none), refl)
 
     consumed_on : Consumes left_now left_new [] → (xs : List ℕ) → Consumes left_new left_new xs → Consumes left_old left_new (so.more ++ xs)
-    consumed_on ended xs consumed =
-        Consumes-trans left_old left_new left_new so.more xs
-        (subst (Consumes left_old left_new) (append-nil so.more) (Consumes-trans left_old left_now left_new so.more [] so.consumed ended)) consumed
+    consumed_on ended xs consumed = search (rules, Consumes-trans, append-nil)
 
     stops_on : {failures failures_after : ℕ} (f : Fault) (v : List ℕ) → ItemsStop p v given (still_at left_new failures failures_after) f
         → ItemsStop p v given (record { before = left_old; after = left_new; failures = failures; failures_after = failures_after }) f
@@ -355,15 +255,7 @@ module _ (p : Profile) (u : List ℕ) (given : List Given) (left_old left_now : 
       last = gives.last;
       no_sooner = sooner gives.more gives.no_sooner;
     }
-    after_more ended failures failures_after (Ok None) gives = record {
-      more = so.more ++ gives.more;
-      consumed = consumed_on ended gives.more gives.consumed;
-      place = gives.place ∙ ap (length {A = ℕ}) (append_assoc u so.more gives.more);
-      all = subst (λ (v : List ℕ). HasReadAll p left_new v (games_of_items new) (tokens_of v)) (append_assoc u so.more gives.more) gives.all;
-      whole = subst (λ (v : List ℕ). given_of (read p (tokens_of v)).progress ≡ given) (append_assoc u so.more gives.more) gives.whole;
-      last = gives.last;
-      none_next = gives.none_next;
-    }
+    after_more ended failures failures_after (Ok None) gives = search (rules, consumed_on, append_assoc)
     after_more ended failures failures_after (Err f) gives = record {
       more = so.more ++ gives.more;
       consumed = consumed_on ended gives.more gives.consumed;
@@ -378,16 +270,7 @@ module _ (p : Profile) (u : List ℕ) (given : List Given) (left_old left_now : 
 -- ---- behind the last bytes
 
 pub rest_none : (old : Items) → AreGoing old → old.has_read_all ≡ true → steps.ReadRestSoFar old old
-rest_none old going all p u given left have = record {
-  tokens = have.tokens;
-  rest = by have.reads;
-  whole = have.whole ∙ nothing_next old given going;
-}
-  where
-    by : ItemsRead p left u old have.tokens → HasRest p left u old have.tokens
-    by (within is on) = absurd (false≢true (sym is ∙ all))
-    by (behind is rest) = rest
-    by (at_end is place whole) = absurd (false≢true (sym going.not_finished ∙ is))
+rest_none old going all p u given left have = search (rules, nothing_next, false≢true)
 
 module _ (p : Profile) (u : List ℕ) (given : List Given) (left : Option (List ℕ)) (now : Items) (so : RestSoFar p u given left now) (going : AreGoing now) (lexer : Standing) (current : Current) where
   abbrev new : Bool → Option Fault → Items
@@ -409,10 +292,7 @@ module _ (p : Profile) (u : List ℕ) (given : List Given) (left : Option (List 
 
   -- the tokens that are left behind the first
   left_behind : (t : Token) → HasLeft lexer u (so.tokens ++ t ∷ []) → MarkersEndAt (length u) (t ∷ coming lexer [])
-  left_behind t left_now =
-      subst (MarkersEndAt (length u))
-      (append_cancel_left so.tokens (coming now.lexer []) (t ∷ coming lexer [])
-      (sym so.rest.rest ∙ left_now ∙ append_assoc so.tokens (t ∷ []) (coming lexer []))) so.rest.markers
+  left_behind t left_now = search (rules, append_cancel_left, append_assoc)
 
   pub rest_on : ReadsLastToken now.lexer now.current lexer current false (Ok None) → RestSoFar p u given left (new false None)
   rest_on reads =
@@ -467,17 +347,9 @@ module _ (p : Profile) (u : List ℕ) (given : List Given) (left : Option (List 
       record {
         more = [];
         consumed = Consumes-nil left;
-        all = subst (λ (v : List ℕ). HasReadAll p left v (games_of_items (new true None)) (tokens_of v)) (sym (append-nil u)) (record {
-          at_end = so.rest.at_end;
-          short = so.rest.short;
-          whole = refl;
-          none_begun = h.2;
-          has_read = read_as h.1.has_read refl refl refl tt;
-          finished = refl;
-        });
+        all = search (rules, append-nil, read_as);
         place = reads.count ∙ so.rest.place ∙ ap (length {A = ℕ}) (sym (append-nil u));
-        whole = subst (λ (v : List ℕ). given_of (read p (tokens_of v)).progress ≡ given) (sym (append-nil u))
-            (h.1.gives ∙ append-nil (given_of (read p so.tokens).progress) ∙ so.whole);
+        whole = search (rules, append-nil);
         last = reads.last.0;
         none_next = reads.last.1;
       }
@@ -487,19 +359,7 @@ module _ (p : Profile) (u : List ℕ) (given : List Given) (left : Option (List 
   rest_fault f e reads failures failures_after =
       let h = cut e reads in
       let all : tokens_of u ≡ (so.tokens ++ h.0 ∷ []) ++ h.1 = h.2 ∙ sym (append_assoc so.tokens (h.0 ∷ []) h.1) in
-      let same : read p (tokens_of u) ≡ read p (so.tokens ++ h.0 ∷ []) =
-      ap (read p) all ∙ stops_from p no_progress (so.tokens ++ h.0 ∷ []) h.1 h.3.fault in
-      record {
-        more = [];
-        consumed = Consumes-nil left;
-        stops = (stops_at (ap (λ r. r.fault) same ∙ h.3.fault) (ap (λ r. given_of r.progress) same ∙ h.3.gives ∙ so.whole)).0;
-        no_sooner = inl refl;
-        kept = refl;
-        position = h.3.position ∙ sym (ap position_at_fault same)
-            ∙ (stops_at (ap (λ r. r.fault) same ∙ h.3.fault) (ap (λ r. given_of r.progress) same ∙ h.3.gives ∙ so.whole)).1;
-        last = reads.last.0;
-        none_next = reads.last.1;
-      }
+      let same : read p (tokens_of u) ≡ read p (so.tokens ++ h.0 ∷ []) = search (rules, stops_from) in search (rules, Consumes-nil, stops_at)
     where
       stops_at : (read p (tokens_of u)).fault ≡ Some f → given_of (read p (tokens_of u)).progress ≡ given
           → (stops : ItemsStop p (u ++ []) given (still_at left failures failures_after) f) × (position_at_fault (read p (tokens_of u)) ≡ position_at_items_stop stops)
@@ -510,8 +370,7 @@ module _ (p : Profile) (u : List ℕ) (given : List Given) (left : Option (List 
 
       cut : (e : Bool) → ReadsLastToken now.lexer now.current lexer current e (Err f)
           → (t : Token) × (rest : List Token) × (tokens_of u ≡ so.tokens ++ t ∷ rest) × Rejects p so.tokens (so.tokens ++ t ∷ []) current f
-      cut true reads = after true (Err f) reads
-      cut false reads = after false (Err f) reads
+      cut e reads = search (rules, after)
 
 -- what a token behind them does
 module _ (now : Items) (going : AreGoing now) (all : now.has_read_all ≡ true) (lexer : Standing) (current : Current) where
@@ -532,20 +391,8 @@ module _ (now : Items) (going : AreGoing now) (all : now.has_read_all ≡ true) 
     where
       by : (e : Bool) (o : Option CodeItem) → ReadsLastToken now.lexer now.current lexer current e (Ok o)
           → TakesAtEnd now (then now.has_read_all e None) e (Ok o)
-      by false None reads = record {
-        after = λ p u given left so. rest_on p u given left now so going lexer current reads;
-        goes = (record { no_fault = refl; not_finished = refl; last = reads.last.0; pending = reads.last.1 }, reads.nearer refl);
-        read_all = refl;
-        count = reads.count;
-        lowers = tt;
-      }
-      by true None reads = record {
-        after = λ p u given left so. rest_ends p u given left now so going lexer current reads;
-        goes = tt;
-        read_all = refl;
-        count = reads.count;
-        lowers = tt;
-      }
+      by false None reads = search (rules, after, rest_on)
+      by true None reads = search (rules, rest_ends)
       by false (Some i) reads = record {
         after = λ p u given left so. rest_item p u given left now so going lexer current i false all reads;
         goes = tt;
@@ -571,8 +418,7 @@ module _ (now : Items) (going : AreGoing now) (all : now.has_read_all ≡ true) 
   })
     where
       by : (e : Bool) → steps.GoesOnAtEnd now (then now.has_read_all false (Some f)) e (Err f)
-      by true = tt
-      by false = tt
+      by e = search rules
 
 -- ---- an item that is given next
 
@@ -582,30 +428,17 @@ module _ (old : Items) (i : CodeItem) (next : old.current.pending ≡ Some i) wh
 
   reads_same : (p : Profile) (left : Option (List ℕ)) (u : List ℕ) (tokens : List Token) → ItemsRead p left u old tokens → ItemsRead p left u given_now tokens
   reads_same p left u tokens (within is on) = within is on
-  reads_same p left u tokens (behind is rest) =
-      behind is (record { at_end = rest.at_end; short = rest.short; place = rest.place; rest = rest.rest; markers = rest.markers; has_read = rest.has_read; not_finished = rest.not_finished })
+  reads_same p left u tokens (behind is rest) = search (rules, has_read)
   reads_same p left u tokens (at_end is place all) = at_end is place all
 
   same_as : given_as given_now.current i ≡ given_as old.current i
-  same_as = by i
-    where
-      by : (x : CodeItem) → given_as given_now.current x ≡ given_as old.current x
-      by items.Tags = refl
-      by (items.Move m) = refl
-      by (items.Glyph n) = refl
-      by items.CommentOpen = refl
-      by items.Word = refl
-      by items.CommentClose = refl
-      by items.Open = refl
-      by items.Close = refl
-      by (items.Marker m) = refl
+  same_as = search rules
 
   pub gives_next : (p : Profile) (u : List ℕ) (given : List Given) (left : Option (List ℕ)) → HaveGiven p left u old given
       → GivesItem p u given left left given_now i
   gives_next p u given left have =
       let some : IsTrue (is_some old.current.last) = ap is_some (subst (λ (o : Option CodeItem). IsBehindTags o old.current.last) next have.behind) in
-      let all : given ++ given_next old.current ≡ given ++ given_as given_now.current i ∷ [] =
-      ap (λ (o : Option CodeItem). given ++ given_if old.current o) next ∙ ap (λ (g : Given). given ++ g ∷ []) (sym same_as) in
+      let all : given ++ given_next old.current ≡ given ++ given_as given_now.current i ∷ [] = search (rules, same_as) in
       let held = keep (shown (given ++ given_as given_now.current i ∷ [])) (subst (λ (gs : List Given). IsSomeAnd (shown gs) (IsHeld old.current)) all (have.holds some)) in
       record {
         more = [];
@@ -624,17 +457,13 @@ module _ (old : Items) (i : CodeItem) (next : old.current.pending ≡ Some i) wh
       }
     where
       either : (a b c : Bool) → IsTrue (b || false) → c ≡ b → IsTrue (a || c)
-      either true b c h is = refl
-      either false true c h is = is
-      either false false c h is = absurd (false≢true h)
+      either a b c h is = search (rules, false≢true)
 
       read_before : IsTrue (has_read_marker given_now.current) → IsTrue (has_read_marker old.current)
-      read_before read =
-          either (is_marker_item old.current.last) (is_marker_item (Some i)) (is_marker_item old.current.pending) read (ap is_marker_item next)
+      read_before read = search (rules, either)
 
       keep : (o : Option Shown) → IsSomeAnd o (IsHeld old.current) → IsSomeAnd o (IsHeld given_now.current)
-      keep None h = h
-      keep (Some s) h = record { pairs = h.pairs; text = h.text }
+      keep o h = search rules
 
       more : IsSomeAnd (shown (given ++ given_as given_now.current i ∷ [])) (IsHeld given_now.current)
           → IsSomeAnd (shown ((given ++ given_as given_now.current i ∷ []) ++ given_next given_now.current)) (IsHeld given_now.current)
@@ -650,8 +479,7 @@ module _ (old : Items) (none : old.current.pending ≡ None) where
   forgets p u given left have = record {
     tokens = have.tokens;
     reads = by have.reads;
-    whole = have.whole ∙ ap (λ (o : Option CodeItem). given ++ given_if old.current o) none
-        ∙ sym (ap (λ (o : Option CodeItem). given ++ given_if forgotten.current o) none);
+    whole = search rules;
     behind = subst (λ (o : Option CodeItem). IsBehindTags o None) (sym none) tt;
     shows = λ some. absurd (false≢true some);
     holds = λ some. absurd (false≢true some);
@@ -660,8 +488,7 @@ module _ (old : Items) (none : old.current.pending ≡ None) where
     where
       by : ItemsRead p left u old have.tokens → ItemsRead p left u forgotten have.tokens
       by (within is on) = within is on
-      by (behind is rest) =
-          behind is (record { at_end = rest.at_end; short = rest.short; place = rest.place; rest = rest.rest; markers = rest.markers; has_read = rest.has_read; not_finished = rest.not_finished })
+      by (behind is rest) = search (rules, has_read)
       by (at_end is place all) = at_end is place all
 
   -- all was given
@@ -678,31 +505,18 @@ module _ (old : Items) (none : old.current.pending ≡ None) where
   }
     where
       place_of : ItemsRead p left u old have.tokens → old.lexer.count ≡ length u
-      place_of (within more on) = absurd (false≢true (sym on.not_finished ∙ is))
-      place_of (behind more rest) = rest.place
-      place_of (at_end e place all) = place
+      place_of h1 = search (rules, false≢true)
 
       by : ItemsRead p left u old have.tokens → HasReadAll p left u (games_of_items old) (tokens_of u) × (have.tokens ≡ tokens_of u)
-      by (within more on) = absurd (false≢true (sym on.not_finished ∙ is))
-      by (behind more rest) = absurd (false≢true (sym rest.not_finished ∙ is))
-      by (at_end e place all) = (subst (λ (ts : List Token). HasReadAll p left u (games_of_items old) ts) all.whole all, all.whole)
+      by h1 = search (rules, false≢true)
 
       whole : HasReadAll p left u (games_of_items forgotten) (tokens_of u) × (given_of (read p (tokens_of u)).progress ≡ given)
-      whole =
-          let (all, is_all) = by have.reads in (
-            all,
-            ap (λ (ts : List Token). given_of (read p ts).progress) (sym is_all) ∙ have.whole
-                ∙ ap (λ (o : Option CodeItem). given ++ given_if old.current o) none ∙ append-nil given,
-          )
+      whole = search (rules, by, append-nil)
 
 -- what giving the item does that is given next
 module _ (c : Current) where
   pub gives_nothing : c.pending ≡ None → giving_next c ≡ c
-  gives_nothing none = by c.pending none
-    where
-      by : (o : Option CodeItem) → o ≡ None → elim o [ None ↦ c | Some i ↦ record c { last = Some i; pending = None } ] ≡ c
-      by None is = refl
-      by (Some i) is = absurd (none-some i (sym is))
+  gives_nothing none = search rules
 
   pub gives_some : (i : CodeItem) → c.pending ≡ Some i → giving_next c ≡ record c { last = Some i; pending = None }
   gives_some i is = ap (λ (o : Option CodeItem). elim o [ None ↦ c | Some i ↦ record c { last = Some i; pending = None } ]) is

@@ -1,25 +1,23 @@
 -- One token of a text, and what is given for it.
 use Rattle.pgn_lexer.specs.PartialToken.{refusal as refusal_token}
 use Rattle.pgn_lexer.specs.Scanned.{token}
-use Rattle.pgn_game.proofs.Words.{◌≡◌, ℕ, ◌+◌, ◌^◌, ◌<◌, ◌≤◌, ◌||◌, IsTrue, false, List, [], ◌∷◌, ◌++◌, map, length, take, drop, fold, fold-append, Option, None, Some, IsSomeAnd, Result, Ok, Err, refl, sym, ap, subst, ◌∙◌, arith, append-nil, append_assoc, inl, false≢true, take_all, drop_of_length-le, Token, Reason, WriteFault, Lexical, LexFault, Profile, Game, Item, Pair, Next, going, whole, Progress, progress_with, read, refusal, next, Follows, StandsAfter, first, Scans, Standing, more, fault, HasRead, IsSound, Keeps, Answers, Accepted, More, Finished, CountsWrites, TakesToken, part_after, unused}
+use Rattle.pgn_game.proofs.Words.{◌≡◌, ℕ, ◌+◌, ◌^◌, ◌<◌, ◌≤◌, IsTrue, false, List, [], ◌∷◌, ◌++◌, map, length, take, drop, fold, fold-append, Option, None, Some, Result, Ok, Err, refl, sym, ap, subst, ◌∙◌, arith, append-nil, append_assoc, inl, false≢true, take_all, drop_of_length-le, Token, Reason, WriteFault, Lexical, LexFault, Profile, Game, Item, Pair, Next, Progress, progress_with, read, refusal, next, Follows, StandsAfter, first, Scans, Standing, more, fault, HasRead, IsSound, Keeps, Answers, Accepted, More, Finished, TakesToken, part_after, unused, rules, common_steps}
 use Rattle.pgn_game.specs.games.Progress.{position_at_fault}
 use Rattle.pgn_game.specs.steps.GameState as game_state
 use Rattle.pgn_game.specs.declared.item.Item.{Item as CodeItem}
 use Rattle.pgn_game.specs.public.Given.{Given, Shown, given_of, given_of_game, given_of_games, given_of_next, given_of_part, given_with, item, shown, shown_with}
-use Rattle.pgn_game.specs.public.ItemsCalls.{Current, IsHeld, given_as, given_next, has_read_marker, is_marker_item}
-use Rattle.pgn_game.specs.steps.ItemsSteps.{AfterToken, GivesFor, IsAnswer, ReadsToken, Rejects, TakesItem, games_added, marker_given, reads_as}
+use Rattle.pgn_game.specs.public.ItemsCalls.{Current, has_read_marker}
+use Rattle.pgn_game.specs.steps.ItemsSteps.{AfterToken, IsAnswer, ReadsToken, Rejects, TakesItem, games_added, marker_given, reads_as}
 use Rattle.pgn_game.proofs.stepping.AcceptedToConverter.{follows_own, has_read_game, has_read_more, lexical-refusal, next_in_piece, read_as, read_at, still_none}
 use Rattle.pgn_game.proofs.stepping.OneMoreToken.{read-passes, read-refuses}
 
 games-snoc : (games : List Game) (g : Game) → given_of_games (games ++ g ∷ []) ≡ given_of_games games ++ given_of_game g
 games-snoc [] g = append-nil (given_of_game g)
-games-snoc (h ∷ games) g =
-    ap (λ (gs : List Given). given_of_game h ++ gs) (games-snoc games g) ∙ sym (append_assoc (given_of_game h) (given_of_games games) (given_of_game g))
+games-snoc (h ∷ games) g = search (rules, append_assoc, (games-snoc games g))
 
 -- what is given with a token more
 pub given_after : (games : List Game) (nx : Next) → given_of (progress_with games nx) ≡ given_of_games games ++ given_of_next nx
-given_after games (going part) = refl
-given_after games (whole g) = append-nil (given_of_games (games ++ g ∷ [])) ∙ games-snoc games g
+given_after games nx = search (rules, append-nil, games-snoc)
 
 items_shown : (ps : List Pair) (before is : List Item)
     → fold shown_with (Some (record { pairs = ps; items = before; marker = None })) (map item is) ≡ Some (record { pairs = ps; items = before ++ is; marker = None })
@@ -29,17 +27,12 @@ items_shown ps before (i ∷ is) =
 
 marker_shown : (s : Shown) (ended : Option (List ℕ)) → s.marker ≡ None
     → fold shown_with (Some s) (marker_given ended) ≡ Some (record { pairs = s.pairs; items = s.items; marker = ended })
-marker_shown s None none = ap (λ (m : Option (List ℕ)). Some (record { pairs = s.pairs; items = s.items; marker = m })) none
-marker_shown s (Some m) none = refl
+marker_shown s ended none = search rules
 
 -- the game of which something was given last
 pub shown_is : (given : List Given) (ps : List Pair) (is : List Item) (ended : Option (List ℕ))
     → shown (given ++ (given_with ps is ++ marker_given ended)) ≡ Some (record { pairs = ps; items = is; marker = ended })
-shown_is given ps is ended =
-    fold-append shown_with None given (given_with ps is ++ marker_given ended)
-    ∙ fold-append shown_with (Some (record { pairs = ps; items = []; marker = None })) (map item is) (marker_given ended)
-    ∙ ap (λ (s : Option Shown). fold shown_with s (marker_given ended)) (items_shown ps [] is)
-    ∙ marker_shown (record { pairs = ps; items = is; marker = None }) ended refl
+shown_is given ps is ended = search (rules, fold-append, items_shown, marker_shown)
 
 -- A token was taken by the current game.
 module _ (p : Profile) (old_lexer lexer : Standing) (old new : Current) (given : List Token) (t : Token) (has_read : HasRead p (reads_as old_lexer old) given) where
@@ -67,52 +60,24 @@ module _ (p : Profile) (old_lexer lexer : Standing) (old new : Current) (given :
 
   given_more : refusal old.reading.profile b.part t.kind ≡ None → (rest : List Given) → given_of_next (next b.part t.kind) ≡ given_of_part b.part ++ rest
       → given_of (read p tokens).progress ≡ given_of b ++ rest
-  given_more h rest is =
-      ap given_of (progress_is h) ∙ given_after b.games (next b.part t.kind) ∙ ap (λ (gs : List Given). given_of_games b.games ++ gs) is
-      ∙ sym (append_assoc (given_of_games b.games) (given_of_part b.part) rest)
+  given_more h rest is = search (rules, progress_is, given_after, append_assoc)
 
   given_whole : refusal old.reading.profile b.part t.kind ≡ None → (all : List Given) → given_of_next (next b.part t.kind) ≡ all
       → given_of (read p tokens).progress ≡ given_of_games b.games ++ all
-  given_whole h all is =
-      ap given_of (progress_is h) ∙ given_after b.games (next b.part t.kind) ∙ ap (λ (gs : List Given). given_of_games b.games ++ gs) is
+  given_whole h all is = search (rules, progress_is, given_after)
 
   module _ (item : Option CodeItem) (takes : TakesItem old t.kind new (Ok item)) where
     after_by : (answer : Result Accepted Reason) → takes.answer ≡ answer → IsAnswer (Ok item) answer → AfterToken p given tokens lexer new item
-    after_by (Err reason) is none = absurd none
-    after_by (Ok accepted) is ok =
-        let taken = subst (λ (a : Result Accepted Reason). TakesToken old.reading t.kind new.reading a (unused None 0)) is takes.takes in
-        let h = taken.accepts b.part has_read.agrees in
-        let counted = subst (λ (a : Result Accepted Reason). new.games ≡ old.games + games_added a) is takes.games in
-        let reads = reads_on 0 taken.keeps accepted h counted in
-        by item h.free reads (takes.gives b.part has_read.agrees)
-      where
-        by : (o : Option CodeItem) → refusal old.reading.profile b.part t.kind ≡ None → HasRead p (reads_as lexer new) tokens → GivesFor b.part t.kind new (Ok o)
-            → AfterToken p given tokens lexer new o
-        by None free reads gives =
-            record { has_read = reads; gives = given_more free [] (gives ∙ sym (append-nil (given_of_part b.part))) }
-        by (Some i) free reads gives = (
-          record { has_read = reads; gives = given_more free (given_as new i ∷ given_next new) gives.given },
-          record {
-            holds = subst (λ (s : Option Shown). IsSomeAnd s (IsHeld new))
-                (sym (ap shown (given_whole free _ gives.whole) ∙ shown_is (given_of_games b.games) b.part.pairs gives.items gives.ended))
-                (record { pairs = gives.pairs; text = gives.text });
-          },
-        )
+    after_by answer is h1 = grind (arith, common_steps, reads_on, given_more, append-nil, given_whole, shown_is)
 
     pub after_item : AfterToken p given tokens lexer new item
     after_item = after_by takes.answer refl takes.is
 
   pub free : (i : Option CodeItem) → TakesItem old t.kind new (Ok i) → refusal p b.part t.kind ≡ None
-  free i takes = by takes.answer refl takes.is
-    where
-      by : (answer : Result Accepted Reason) → takes.answer ≡ answer → IsAnswer (Ok i) answer → refusal p b.part t.kind ≡ None
-      by (Err reason) is none = absurd none
-      by (Ok accepted) is ok =
-          passes ((subst (λ (a : Result Accepted Reason). TakesToken old.reading t.kind new.reading a (unused None 0)) is takes.takes).accepts b.part has_read.agrees).free
+  free i takes = search (rules, passes)
 
   no_write_fails : (reason : Reason) → TakesToken old.reading t.kind new.reading (Err reason) (unused None 0) → reason ≡ WriteFault → ⊥
-  no_write_fails reason takes is =
-      absurd (omega (arith, (subst (λ (r : Reason). CountsWrites (Err r) (unused None 0)) is takes.counted).1))
+  no_write_fails reason takes is = search rules
 
   pub rejected : (reason : Reason) → TakesItem old t.kind new (Err reason) → Rejects p given (given ++ t ∷ []) new (record { at = t.at; reason = reason })
   rejected reason takes =
@@ -129,13 +94,11 @@ module _ (p : Profile) (old_lexer lexer : Standing) (old new : Current) (given :
 pub rejected_text : (p : Profile) (given : List Token) (new : Current) (f : LexFault) → (read p given).fault ≡ None
     → Rejects p given (given ++ refusal_token f ∷ []) new (record { at = f.at; reason = Lexical f.reason })
 rejected_text p given new f passes =
-    let ends = read-refuses p given (refusal_token f) [] (Lexical f.reason) passes (lexical-refusal p (part_after p given) f) in
-    record { fault = ap (λ r. r.fault) ends; gives = ap (λ r. given_of r.progress) ends; position = sym (ap position_at_fault ends) }
+    let ends = read-refuses p given (refusal_token f) [] (Lexical f.reason) passes (lexical-refusal p (part_after p given) f) in search rules
 
 -- no marker was read
 pub no_marker : (c : Current) → c.last ≡ None → c.pending ≡ None → IsTrue (has_read_marker c) → ⊥
-no_marker c last pending is =
-    false≢true (sym (ap (λ (o : Option CodeItem). is_marker_item o || is_marker_item c.pending) last ∙ ap is_marker_item pending) ∙ is)
+no_marker c last pending is = search (rules, false≢true)
 
 -- What is read of a piece.
 module _ (old_lexer lexer : Standing) (old new : Current) (piece : List ℕ) (used : ℕ) (some : 0 < length piece) (short : old_lexer.count + length piece ≤ 2 ^ 62)
@@ -157,22 +120,13 @@ module _ (old_lexer lexer : Standing) (old new : Current) (piece : List ℕ) (us
     last = (last, pending);
     writing = refl;
     count = scans.count;
-    sound = record {
-      count = omega (arith, scans.count, short, within);
-      few = λ none. omega (arith, sound.few none, scans.count, scans.few, scans.reads.0, some);
-      few_plies = λ none. omega (arith, sound.fewer_plies none refl, scans.count, scans.few, scans.reads.0, some);
-      fewer_plies = λ none going. omega (arith, sound.fewer_plies none refl, scans.count, scans.few, scans.reads.0, some);
-      between = λ finished. absurd (false≢true finished);
-      no_fault = λ finished. absurd (false≢true finished);
-    };
+    sound = search (rules, false≢true);
     nearer = omega (arith, scans.few, scans.reads.0, some);
   }
 
   module _ (t : Token) (scans : Scans old_lexer piece lexer used (token t)) where
     few_games : (answer : Result Accepted Reason) → games_added answer ≤ 1
-    few_games (Ok Finished) = omega arith
-    few_games (Ok More) = omega arith
-    few_games (Err reason) = omega arith
+    few_games answer = search rules
 
     pub reads_item : (i : Option CodeItem) → TakesItem old t.kind new (Ok i) → ReadsToken old_lexer old piece lexer new used (Ok i)
     reads_item i takes = record {
@@ -188,14 +142,7 @@ module _ (old_lexer lexer : Standing) (old new : Current) (piece : List ℕ) (us
       last = takes.last;
       writing = takes.takes.keeps.writing;
       count = scans.count;
-      sound = record {
-        count = omega (arith, scans.count, short, within);
-        few = λ none. omega (arith, sound.few none, scans.count, scans.advances, takes.games, few_games takes.answer);
-        few_plies = λ none. omega (arith, sound.fewer_plies none refl, scans.count, scans.advances, takes.takes.keeps.plies);
-        fewer_plies = λ none going. omega (arith, sound.fewer_plies none refl, scans.count, scans.advances, takes.takes.keeps.plies);
-        between = λ finished. absurd (false≢true finished);
-        no_fault = λ finished. absurd (false≢true finished);
-      };
+      sound = search (rules, few_games, false≢true);
       nearer = omega (arith, scans.advances);
     }
 

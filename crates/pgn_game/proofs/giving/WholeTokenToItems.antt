@@ -1,10 +1,9 @@
 -- A token that lies whole in a piece, behind white space and numbers, and what is given for it.
-use Rattle.pgn_game.proofs.Words.{◌≡◌, ℕ, ◌+◌, ◌^◌, ◌<◌, ◌≤◌, ◌⊎◌, false, IsTrue, List, [], ◌∷◌, ◌++◌, ◌*◌, IfOk, waiting, length, take, drop, Option, None, Some, Result, Ok, Err, refl, sym, ap, subst, ◌∙◌, inl, inr, arith, append-nil, append_assoc, take-add, drop-drop, take-append-drop, length-drop, length-take, Kind, Token, Fault, Profile, Part, Stage, InMovetext, More, Follows, StandsAfter, IsDecided, first, more, Scans, Standing, read, IsSound, AreNext, Passes, ReadsBehind, Reason, is_passed, over_space, over_token}
+use Rattle.pgn_game.proofs.Words.{◌≡◌, ℕ, ◌+◌, ◌^◌, ◌<◌, ◌≤◌, ◌⊎◌, false, IsTrue, List, [], ◌++◌, ◌*◌, IfOk, waiting, length, take, drop, Option, None, Result, Ok, Err, refl, sym, ap, subst, ◌∙◌, inl, inr, arith, append-nil, append_assoc, take-add, drop-drop, take-append-drop, length-drop, length-take, Kind, Token, Fault, Profile, Part, InMovetext, More, Follows, StandsAfter, first, more, Scans, Standing, read, IsSound, AreNext, Passes, ReadsBehind, Reason, is_passed, over_space, over_token, rules}
 use Rattle.pgn_lexer.specs.WholeTokens.{none}
 use Rattle.pgn_game.specs.declared.item.Item.{Item as CodeItem}
-use Rattle.pgn_game.specs.games.Game.{Item}
-use Rattle.pgn_game.specs.public.Given.{Given, given_at, given_of, given_of_next, given_of_part, given_with}
-use Rattle.pgn_game.specs.public.ItemsCalls.{Current, given_as, given_next}
+use Rattle.pgn_game.specs.public.Given.{given_of, given_of_part, given_with}
+use Rattle.pgn_game.specs.public.ItemsCalls.{Current}
 use Rattle.pgn_game.specs.steps.ItemsSteps.{AfterToken, AfterTokenOf, ReadsToken, TakesItem, reads_as}
 use Rattle.pgn_game.proofs.giving.TokenToItems.{no_marker, reads_item, reads_nothing, reads_refused}
 use Rattle.pgn_game.proofs.stepping.AcceptedToConverter.{read_at, still_none}
@@ -13,8 +12,7 @@ use Rattle.pgn_game.proofs.stepping.StepsInPiece.{before_any}
 use Rattle.pgn_game.proofs.stepping.StepsOverTokens.{sound_past}
 
 follows_one : (xs : List ℕ) → Follows (first xs) (take 1 xs)
-follows_one [] = tt
-follows_one (x ∷ xs) = refl
+follows_one xs = search rules
 
 -- ---- one after the other
 
@@ -36,30 +34,12 @@ module _ (lexer mid new_lexer : Standing) (old new : Current) (piece : List ℕ)
     -- what is given is given after the same
     same_item : (p : Profile) (given between tokens : List Token) → given_of (read p between).progress ≡ given_of (read p given).progress
         → (o : Option CodeItem) → AfterToken p between tokens new_lexer new o → AfterToken p given tokens new_lexer new o
-    same_item p given between tokens same None after = record {
-      has_read = after.has_read;
-      gives = after.gives ∙ ap (λ (gs : List Given). gs ++ []) same;
-    }
-    same_item p given between tokens same (Some i) after = (
-      record {
-        has_read = after.0.has_read;
-        gives = after.0.gives ∙ ap (λ (gs : List Given). gs ++ given_as new i ∷ given_next new) same;
-      },
-      after.1,
-    )
+    same_item p given between tokens same o after = search rules
 
     after_behind : (p : Profile) (u : List ℕ) (given between : List Token) → given_of (read p between).progress ≡ given_of (read p given).progress
         → (r : Result (Option CodeItem) Fault)
         → AfterTokenOf p (u ++ take passed piece) between rest new_lexer new count r → AfterTokenOf p u given piece new_lexer new (passed + count) r
-    after_behind p u given between same (Ok item) after = (
-      after.0,
-      subst (λ (v : List ℕ). StandsAfter new_lexer v (first (drop (passed + count) piece)) after.0) (bytes u)
-          (subst (λ (xs : List ℕ). StandsAfter new_lexer ((u ++ take passed piece) ++ take count rest) (first xs) after.0) ahead after.1),
-      subst (λ (v : List ℕ). IsDecided v (drop (passed + count) piece) after.0) (bytes u)
-          (subst (λ (xs : List ℕ). IsDecided ((u ++ take passed piece) ++ take count rest) xs after.0) ahead after.2),
-      same_item p given between after.0 same item after.3,
-      after.4,
-    )
+    after_behind p u given between same (Ok item) after = search (rules, bytes, ahead, same_item)
     after_behind p u given between same (Err f) after = (
       after.0,
       record { fault = after.1.fault; gives = after.1.gives ∙ same; position = after.1.position },
@@ -68,8 +48,7 @@ module _ (lexer mid new_lexer : Standing) (old new : Current) (piece : List ℕ)
 
     fewer : (r : Result (Option CodeItem) Fault) → ReadsToken mid old rest new_lexer new count r
         → IfOk r (λ item. waiting new_lexer < 4 * (passed + count) + waiting lexer)
-    fewer (Ok item) reads = omega (arith, reads.nearer, before.nearer)
-    fewer (Err f) reads = tt
+    fewer r reads = search rules
 
     pub reads_behind : (r : Result (Option CodeItem) Fault) → ReadsToken mid old rest new_lexer new count r
         → ReadsToken lexer old piece new_lexer new (passed + count) r
@@ -95,17 +74,12 @@ Past lexer old piece mid passed = ((passed ≡ 0) × (mid ≡ lexer)) ⊎ ReadsT
 pub reads_past : (lexer mid new_lexer : Standing) (old new : Current) (piece : List ℕ) (passed count : ℕ) (r : Result (Option CodeItem) Fault)
     → Past lexer old piece mid passed → ReadsToken mid old (drop passed piece) new_lexer new count r → ReadsToken lexer old piece new_lexer new (passed + count) r
 reads_past lexer mid new_lexer old new piece passed count r (inr before) reads = reads_behind lexer mid new_lexer old new piece passed before count r reads
-reads_past lexer mid new_lexer old new piece passed count r (inl same) reads =
-    let sum : passed + count ≡ count = omega (arith, same.0) in
-    subst (λ (n : ℕ). ReadsToken lexer old piece new_lexer new n r) (sym sum)
-    (subst (λ (l : Standing). ReadsToken l old piece new_lexer new count r) same.1
-    (subst (λ (n : ℕ). ReadsToken mid old (drop n piece) new_lexer new count r) same.0 reads))
+reads_past lexer mid new_lexer old new piece passed count r (inl same) reads = search rules
 
 -- in movetext a number or a period
 module _ (c : Current) (last : c.last ≡ None) (pending : c.pending ≡ None) where
   same_items : (part : Part) → part.stage ≡ InMovetext → given_with part.pairs (part.items ++ []) ≡ given_of_part part
-  same_items part at =
-      ap (λ (is : List Item). given_with part.pairs is) (append-nil part.items) ∙ sym (ap (λ (s : Stage). given_at s part) at)
+  same_items part at = search (rules, append-nil)
 
   takes_number : (k : Kind) → c.reading.stage ≡ InMovetext → IsTrue (is_passed k) → TakesItem c k c (Ok None)
   takes_number k at passed = record {
@@ -113,8 +87,7 @@ module _ (c : Current) (last : c.last ≡ None) (pending : c.pending ≡ None) w
     is = tt;
     takes = takes_passed c.reading k None 0 at passed;
     games = omega arith;
-    gives = λ part agrees.
-        ap given_of_next (passed_leads c.reading k part at passed agrees) ∙ same_items part (sym agrees.stage ∙ at);
+    gives = search (rules, passed_leads, same_items);
     last = (last, pending);
     is_marker = λ is. absurd (no_marker c last pending is);
   }
@@ -167,8 +140,7 @@ module _ (lexer : Standing) (old : Current) (piece : List ℕ) (last : old.last 
   reads_space {mid} {used} passes within some = by (past passes within)
     where
       by : Past lexer old piece mid used → ReadsToken lexer old piece mid old used (Ok None)
-      by (inl same) = absurd (omega (arith, same.0, some))
-      by (inr reads) = reads
+      by h1 = search rules
 
   -- The piece is read on from there, if there is none.
   pub reads_at_once : {mid : Standing} {used : ℕ} → Passes skips lexer piece mid used → used ≤ length piece → used ≡ 0
@@ -201,12 +173,8 @@ module _ (lexer : Standing) (old : Current) (piece : List ℕ) (last : old.last 
         (reads_past lexer behind.mid new_lexer old new piece behind.passed behind.count r (past behind.passes inside) reads)
 
     pub reads_whole_item : (i : Option CodeItem) → TakesItem old t.kind new (Ok i) → ReadsToken lexer old piece new_lexer new used (Ok i)
-    reads_whole_item i takes =
-        reads_there (Ok i)
-        (reads_item behind.mid new_lexer old new there behind.count some_there (short_behind behind.passes inside) (sound_behind behind.passes inside) within_there t behind.reads i takes)
+    reads_whole_item i takes = search (rules, reads_there, reads_item, some_there, short_behind, inside, sound_behind, within_there)
 
     pub reads_whole_refused : (reason : Reason) → TakesItem old t.kind new (Err reason)
         → ReadsToken lexer old piece new_lexer new used (Err (record { at = t.at; reason = reason }))
-    reads_whole_refused reason takes =
-        reads_there (Err (record { at = t.at; reason = reason }))
-        (reads_refused behind.mid new_lexer old new there behind.count some_there (short_behind behind.passes inside) (sound_behind behind.passes inside) within_there t behind.reads reason takes)
+    reads_whole_refused reason takes = search (rules, reads_there, reads_refused, some_there, short_behind, inside, sound_behind, within_there)

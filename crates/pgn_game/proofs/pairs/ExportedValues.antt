@@ -19,13 +19,11 @@ pub value_of-at : (ps : List Pair) (i : ℕ) (p : Pair) (name : List ℕ) {b : B
     → value_of (drop i ps) name ≡ pick b p.value (value_of (drop (i + 1) ps) name)
 value_of-at ps i p name e is =
     let h = within_at ps i p e in
-    let front : drop i ps ≡ p ∷ drop (i + 1) ps = cc (drop-cons ps i p h.0, add-one i) in
-    cc (value_of-cons p (drop (i + 1) ps) name, bytes_eq-sym p.name name)
+    let front : drop i ps ≡ p ∷ drop (i + 1) ps = cc (drop-cons ps i p h.0, add-one i) in search (rules, value_of-cons, bytes_eq-sym)
 
 pick_default : (ps : List Pair) {d name : List ℕ} (v : List ℕ) (b : Bool) (rest : Option (List ℕ)) → (b ≡ true → d ≡ name)
     → pick b (unwrap_or (value_of ps d) v) (defaulted (value_of ps name) rest) ≡ defaulted (value_of ps name) (pick b v rest)
-pick_default ps v true rest same = cc (same refl)
-pick_default ps v false rest same = refl
+pick_default ps v b rest same = search rules
 
 value_of-defaults : (ps ds : List Pair) (name : List ℕ)
     → value_of (map (with_default ps) ds) name ≡ defaulted (value_of ps name) (value_of ds name)
@@ -76,8 +74,7 @@ pub set_up_gone : (ps : List Pair) → has_pair (without_set_up ps) (codes "SetU
 set_up_gone ps = ap is_some (value_of-kept _ ps _)
 
 hidden : (b : Bool) {c : Bool} (v : List ℕ) (o : Option (List ℕ)) → c ≡ b → pick b v (cond (not c) o None) ≡ pick b v o
-hidden true v o e = refl
-hidden false v o e = cc
+hidden b v o e = search rules
 
 with_one : (ps : List Pair) (n : List ℕ) → value_of (set_up_if true ps) n ≡ pick (bytes_eq (codes "SetUp") n) (codes "1") (value_of ps n)
 with_one ps n =
@@ -117,8 +114,7 @@ full_value m ps n e = search (rules, reduced_value, value_of-append)
 -- a name of the roster has its value, or what stands for it
 pub exported_known : (mode : Mode) (m : List ℕ) (ps : List Pair) (n : List ℕ) {d : List ℕ} → value_of (roster m) n ≡ Some d
     → value_of (exported mode m ps) n ≡ Some (unwrap_or (value_of ps n) d)
-exported_known Full m ps n e = full_value m ps n e
-exported_known Reduced m ps n e = reduced_value m ps n e
+exported_known mode m ps n e = search (rules, full_value, reduced_value)
 
 module _ (m : List ℕ) (ps : List Pair) (n : List ℕ) where
   pub exported_other : in_roster n ≡ false → value_of (exported Full m ps) n ≡ value_of (with_set_up ps) n
@@ -137,8 +133,7 @@ other_than_set_up : (m name : List ℕ) {unknown : List ℕ} (b : Bool) → valu
 other_than_set_up m name b h1 h2 = search (rules, bytes_eq-true, no_set_up_of)
 
 either_unknown : (value : Option (List ℕ)) (unknown : List ℕ) → Some (unwrap_or value unknown) ≡ either_of value (Some unknown)
-either_unknown (Some v) unknown = refl
-either_unknown None unknown = refl
+either_unknown value unknown = search rules
 
 exported_by : (mode : Mode) (m : List ℕ) (ps : List Pair) (name : List ℕ) (unknown : Option (List ℕ))
     → value_of (roster m) name ≡ unknown → (unknown ≡ None → mode ≡ Reduced → ⊥)
@@ -169,8 +164,7 @@ all-default P ps [] h k = tt
 all-default P ps (d ∷ ds) h k = (by_value _ refl, all-default P ps ds h k.1)
   where
     by_value : (o : Option (List ℕ)) → value_of ps d.name ≡ o → P (record { name = d.name; value = unwrap_or o d.value })
-    by_value None e = k.0
-    by_value (Some v) e = found P ps _ v h e
+    by_value o e = search (rules, found)
 
 all-set_up : (P : Pair → Type 0) (ps : List Pair) → P set_up → AllByRecursion P ps → AllByRecursion P (with_set_up ps)
 all-set_up P ps one h = search (rules, all_kept_by, all-insert)

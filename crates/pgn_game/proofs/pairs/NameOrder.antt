@@ -1,5 +1,5 @@
 -- The order of names is a strict order of all names; and pairs in this order.
-use Rattle.pgn_game.proofs.Words.{◌≡◌, ℕ, ◌<◌, ◌⊎◌, inl, inr, Bool, true, false, cond, List, [], ◌∷◌, refl, sym, ap, ◌∙◌, arith, None, Some, le-ltb, lt-ltb, eq-eqb, ◌||◌, ◌&&◌, ◌==◌, nat_lt, bytes_eq, filter, is_some, All-weaker, all_kept_by, none-some, same_Some, false≢true, or_cases, and_parts, ltb-true, eqb-true, cases_order, Pair, value_of, has_pair, comes_before, insert_pair, AreDistinct, AllAfter, InOrder, rules}
+use Rattle.pgn_game.proofs.Words.{◌≡◌, ℕ, ◌<◌, ◌⊎◌, inl, inr, Bool, true, false, List, [], ◌∷◌, refl, sym, ap, ◌∙◌, arith, None, Some, le-ltb, lt-ltb, eq-eqb, ◌||◌, ◌&&◌, ◌==◌, nat_lt, bytes_eq, filter, is_some, All-weaker, all_kept_by, none-some, same_Some, false≢true, or_cases, and_parts, ltb-true, eqb-true, cases_order, Pair, value_of, has_pair, comes_before, insert_pair, AreDistinct, AllAfter, InOrder, rules}
 use Rattle.pgn_game.proofs.pairs.ValuesByName.{bytes_eq-true, bytes_eq-refl, value_of-cons, not_among, all-insert}
 
 -- Names, byte after byte.
@@ -33,10 +33,7 @@ before-trans (x ∷ xs) (y ∷ ys) (z ∷ zs) e f =
     by_cases : (comes_before xs ys ≡ true → comes_before ys zs ≡ true → comes_before xs zs ≡ true)
         → (x < y) ⊎ ((x ≡ y) × (comes_before xs ys ≡ true))
         → (y < z) ⊎ ((y ≡ z) × (comes_before ys zs ≡ true)) → goes_first x z (comes_before xs zs) ≡ true
-    by_cases rest (inl h) (inl k) = by_byte x z (comes_before xs zs) (omega arith)
-    by_cases rest (inl h) (inr k) = let e = k.0 in by_byte x z (comes_before xs zs) (omega arith)
-    by_cases rest (inr h) (inl k) = let e = h.0 in by_byte x z (comes_before xs zs) (omega arith)
-    by_cases rest (inr h) (inr k) = by_rest x z (h.0 ∙ k.0) (rest h.1 k.1)
+    by_cases rest h1 h2 = search (rules, by_byte, by_rest)
 
 abbrev Comparable : List ℕ → List ℕ → Type 0
 Comparable a b = (comes_before a b ≡ true) ⊎ ((a ≡ b) ⊎ (comes_before b a ≡ true))
@@ -48,17 +45,10 @@ comparable : (a b : List ℕ) → Comparable a b
 comparable [] [] = inr (inl refl)
 comparable [] (y ∷ ys) = inl refl
 comparable (x ∷ xs) [] = inr (inr refl)
-comparable (x ∷ xs) (y ∷ ys) =
-    elim (cases_order x y) [
-      | inl e ↦ comparable-cons e (comparable xs ys)
-      | inr (inl h) ↦ inl (by_byte x y _ h)
-      | inr (inr h) ↦ inr (inr (by_byte y x _ h))
-    ]
+comparable (x ∷ xs) (y ∷ ys) = search (rules, cases_order, comparable-cons, by_byte, (comparable xs ys))
 
 pub further_after : (name next : List ℕ) (qs : List Pair) → comes_before name next ≡ true → AllAfter next qs → AllAfter name qs
-further_after name next qs e h =
-    All-weaker _ _
-    (λ q f. before-trans name next _ e f) qs h
+further_after name next qs e h = search (rules, All-weaker, before-trans)
 
 comes_later : (q r : List ℕ) → comes_before q r ≡ false → bytes_eq r q ≡ false → comes_before r q ≡ true
 comes_later q r e other = grind (arith, false≢true, bytes_eq-refl, comparable)
@@ -71,14 +61,12 @@ order-insert q (r ∷ rs) new h =
   where
     by_test : InOrder (insert_pair q rs) → bytes_eq r.name q.name ≡ false → (b : Bool) → comes_before q.name r.name ≡ b
         → InOrder (elim b [ true ↦ q ∷ r ∷ rs | false ↦ r ∷ insert_pair q rs ])
-    by_test rest other true e = ((e, further_after q.name r.name rs e h.0), h)
-    by_test rest other false e = (all-insert (λ p. comes_before r.name p.name ≡ true) q rs (comes_later q.name r.name e other) h.0, rest)
+    by_test rest other b e = search (rules, further_after, all-insert, comes_later)
 
 pub order-filter : (f : Pair → Bool) (qs : List Pair) → InOrder qs → InOrder (filter f qs)
 order-filter f [] h = tt
 order-filter f (q ∷ qs) h =
-    let more = order-filter f qs h.1 in
-    elim (f q) as (λ b. InOrder (cond b (q ∷ filter f qs) (filter f qs))) [ true ↦ (all_kept_by f _ qs h.0, more) | false ↦ more ]
+    let more = order-filter f qs h.1 in search (rules, all_kept_by)
 
 other_name : (name next : List ℕ) → comes_before name next ≡ true → (b : Bool) → bytes_eq next name ≡ b → b ≡ false
 other_name name next h1 b h2 = search (rules, bytes_eq-true, never_itself)
@@ -100,11 +88,7 @@ value_first q qs = cc (value_of-cons q qs q.name, bytes_eq-refl q.name q.name re
 
 same_behind : (p q : Pair) (ps qs : List Pair) (n : List ℕ) → AllAfter p.name ps → AllAfter q.name qs → p.name ≡ q.name
     → value_of (p ∷ ps) n ≡ value_of (q ∷ qs) n → value_of ps n ≡ value_of qs n
-same_behind p q ps qs n h k same e = by_test _ refl
-  where
-    by_test : (b : Bool) → bytes_eq p.name n ≡ b → value_of ps n ≡ value_of qs n
-    by_test true is = let here = bytes_eq-true _ n is in cc (here, same, absent _ ps h, absent _ qs k)
-    by_test false is = cc (is, same, value_of-cons p ps n, value_of-cons q qs n, e)
+same_behind p q ps qs n h k same e = search (rules, bytes_eq-true, absent, value_of-cons)
 
 pub same_pairs : (ps qs : List Pair) → InOrder ps → InOrder qs → ((name : List ℕ) → value_of ps name ≡ value_of qs name) → ps ≡ qs
 same_pairs [] [] h k e = refl
@@ -114,14 +98,7 @@ same_pairs (p ∷ ps) (q ∷ qs) h k e = by_order (same_pairs ps qs h.1 k.1) (co
   where
     here : p.name ≡ q.name → p ≡ q
     here same =
-        let value = same_Some p.value q.value (sym (value_first p ps) ∙ e p.name ∙ ap (value_of (q ∷ qs)) same ∙ value_first q qs) in
-        (rw same (ap (λ v. record { name = q.name; value = v }) value))
+        let value = same_Some p.value q.value (sym (value_first p ps) ∙ e p.name ∙ ap (value_of (q ∷ qs)) same ∙ value_first q qs) in search rules
 
     by_order : (((n : List ℕ) → value_of ps n ≡ value_of qs n) → ps ≡ qs) → Comparable p.name q.name → (p ∷ ps) ≡ (q ∷ qs)
-    by_order rest (inl before) =
-        absurd (none-some p.value
-        (sym (e p.name ∙ absent p.name (q ∷ qs) (before, further_after p.name q.name qs before k.0)) ∙ value_first p ps))
-    by_order rest (inr (inl same)) = cc (here same, rest (λ n. same_behind p q ps qs n h.0 k.0 same (e n)))
-    by_order rest (inr (inr before)) =
-        absurd (none-some q.value
-        (sym (sym (e q.name) ∙ absent q.name (p ∷ ps) (before, further_after q.name p.name ps before h.0)) ∙ value_first q qs))
+    by_order rest h1 = search (rules, none-some, absent, further_after, value_first, same_behind)

@@ -1,5 +1,5 @@
 -- Where a game begins, from its pairs.
-use Rattle.pgn_game.proofs.Words.{◌≡◌, ℕ, ◌&&◌, Bool, true, false, not, List, Option, None, Some, refl, codes, bytes_eq, is_ok, is_some, unwrap_or, IsTrue, Result, Ok, Err, FenFault, not-false, position_of, Parts, Pair, has_pair, insert_pair, start_of, fen_fault_field, fen_field, fen_position, arith}
+use Rattle.pgn_game.proofs.Words.{◌≡◌, ℕ, ◌&&◌, Bool, true, false, not, List, Option, None, Some, refl, codes, bytes_eq, is_ok, is_some, unwrap_or, IsTrue, Result, Ok, Err, FenFault, not-false, position_of, Parts, Pair, has_pair, insert_pair, start_of, fen_fault_field, fen_field, fen_position, arith, rules}
 use Rattle.chess_text.specs.Fen.{read as read_text}
 use Rattle.pgn_game.proofs.pairs.ValuesByName.{pick, value_of-put, value_of-insert, bytes_eq-true, bytes_eq-refl}
 
@@ -48,8 +48,7 @@ start_passes name value told = passes_by _ _ told
 
 faults_by : (is : Bool) (read : Result Parts FenFault) {field : ℕ} → told_by is read ≡ Err field
     → ((is && is_some (fen_fault_field read)) ≡ true) × (unwrap_or (fen_fault_field read) 0 ≡ field)
-faults_by true (Err fault) told = (refl, cc)
-faults_by _ _ told = absurd (cc)
+faults_by is read told = search rules
 
 told_is : (is : Bool) (read : Result Parts FenFault) {start : Option Parts} → told_by is read ≡ Ok start → is_some start ≡ is
 told_is is read told = grind arith

@@ -1,9 +1,9 @@
 -- The pairs of a tag section, by their index.
 use Rattle.std.proofs.Math.Bool.{or-false}
-use Rattle.std.specs.Prelude.{Result, Ok, Err, slice_index_or}
+use Rattle.std.specs.Prelude.{Result, slice_index_or}
 use Rattle.std.specs.Result.{result_ok}
 use Rattle.std.proofs.lemmas.Option.{slice_get-map, slice_get_past}
-use Rattle.pgn_game.proofs.Words.{◌≡◌, ℕ, ◌+◌, ◌-◌, ◌<◌, ◌≤◌, ◌||◌, Bool, true, false, not, cond, List, [], ◌∷◌, ◌++◌, length, length-map, ◌==◌, option_copied, take, drop, slice_get, drop-cons, drop_of_length-le, add-one, Bor, Option, None, Some, none-some, option_map, unwrap_or, refl, ap, subst, sym, ◌∙◌, arith, bytes_eq, codes, false≢true, Full, Reduced, Pair, value_of, has_pair, comes_before, insert_pair, index_of, roster, roster_pairs, in_roster, other_pairs, with_set_up, exported}
+use Rattle.pgn_game.proofs.Words.{◌≡◌, ℕ, ◌+◌, ◌-◌, ◌<◌, ◌≤◌, ◌||◌, Bool, true, false, not, cond, List, [], ◌∷◌, ◌++◌, length, length-map, ◌==◌, option_copied, take, drop, slice_get, drop-cons, drop_of_length-le, add-one, Bor, Option, None, Some, none-some, option_map, unwrap_or, refl, ap, sym, ◌∙◌, arith, bytes_eq, codes, false≢true, Full, Reduced, Pair, value_of, has_pair, comes_before, insert_pair, index_of, roster, roster_pairs, in_roster, other_pairs, with_set_up, exported, rules}
 use Rattle.pgn_game.specs.public.NameAndValue.{pair_of}
 use Rattle.pgn_game.specs.steps.SectionPairs.{IsPassing, NthResult, is_other, left_behind, others}
 use Rattle.pgn_game.proofs.giving.BufferToItems.{empty_if, some_if}
@@ -25,8 +25,7 @@ get_behind (x ∷ xs) ys left (Prim.Native.Nat.suc i) is = get_behind xs ys left
 -- ---- the pairs outside the roster
 
 others_plain : (ps : List Pair) → others false ps ≡ other_pairs ps
-others_plain [] = refl
-others_plain (p ∷ ps) = cc (or-false (in_roster p.name), others_plain ps)
+others_plain ps = search (rules, or-false)
 
 abbrev is_set_up : Pair → Bool
 is_set_up p = bytes_eq p.name (codes "SetUp")
@@ -36,17 +35,12 @@ kept_unless b p ps = cond (not b) (p ∷ ps) ps
 
 beside_pair : (p : Pair) (ps : List Pair) (r s : Bool) → in_roster p.name ≡ r
     → kept_unless (r || s) p (other_pairs ps) ≡ other_pairs (kept_unless s p ps)
-beside_pair p ps true true is = refl
-beside_pair p ps true false is = cc
-beside_pair p ps false true is = refl
-beside_pair p ps false false is = cc
+beside_pair p ps r s is = search rules
 
 -- those beside the SetUp of a FEN
 others_beside : (ps : List Pair) → others true ps ≡ other_pairs (without_set_up ps)
 others_beside [] = refl
-others_beside (p ∷ ps) =
-    ap (kept_unless (in_roster p.name || is_set_up p) p) (others_beside ps)
-    ∙ beside_pair p (without_set_up ps) (in_roster p.name) (is_set_up p) refl
+others_beside (p ∷ ps) = search (rules, beside_pair, without_set_up, (others_beside ps))
 
 -- those with SetUp's after so many pairs
 abbrev pub others_about : ℕ → List Pair → List Pair
@@ -57,18 +51,7 @@ if_other b p ps = cond b (p ∷ ps) ps
 
 next_about : (n : ℕ) (p : Pair) (ps : List Pair) (b : Bool) → is_other true p ≡ b
     → others_about (1 + n) (p ∷ ps) ≡ if_other b p (others_about n ps)
-next_about n p ps b is =
-    subst (λ (m : ℕ). others_about m (p ∷ ps) ≡ if_other b p (others_about n ps)) (one_more n) (by b is)
-  where
-    one_more : (n : ℕ) → Prim.Native.Nat.suc n ≡ 1 + n
-    one_more n = omega arith
-
-    by : (b : Bool) → is_other true p ≡ b → others_about (Prim.Native.Nat.suc n) (p ∷ ps) ≡ if_other b p (others_about n ps)
-    by true is = ap (λ (c : Bool). if_other c p (others true (take n ps)) ++ set_up ∷ others true (drop n ps)) is
-    by false is = ap (λ (c : Bool). if_other c p (others true (take n ps)) ++ set_up ∷ others true (drop n ps)) is
-
-abbrev put_by : Bool → Pair → List Pair → List Pair
-put_by b p ps = elim b [ true ↦ set_up ∷ p ∷ ps | false ↦ p ∷ insert_pair set_up ps ]
+next_about n p ps b is = search (rules, set_up)
 
 module _ (p : Pair) (ps : List Pair) where
   abbrev held : List Pair
@@ -83,21 +66,12 @@ module _ (p : Pair) (ps : List Pair) where
   set_up_here : (r s b : Bool) → in_roster p.name ≡ r → is_set_up p ≡ s → comes_before (codes "SetUp") p.name ≡ b
       → others_about here ps ≡ other_pairs (insert_pair set_up held)
       → others_about (elim b [ true ↦ 0 | false ↦ 1 + here ]) (p ∷ ps) ≡ other_pairs (insert_pair set_up (kept_unless s p held))
-  set_up_here r true true in_r is before h =
-      absurd (false≢true (ap (comes_before (codes "SetUp")) (sym (bytes_eq-true p.name (codes "SetUp") is)) ∙ before))
-  set_up_here r false true in_r is before h =
-      ap (λ (qs : List Pair). set_up ∷ qs) (others_beside (p ∷ ps) ∙ ap (λ (s : Bool). other_pairs (kept_unless s p held)) is)
-      ∙ ap (λ (b : Bool). other_pairs (put_by b p held)) (sym before)
+  set_up_here r true true in_r is before h = search (rules, false≢true, bytes_eq-true)
+  set_up_here r false true in_r is before h = search (rules, set_up, others_beside)
   set_up_here true true false in_r is before h = next_about here p ps false (is_other_by true true in_r is) ∙ h
   set_up_here false true false in_r is before h = next_about here p ps false (is_other_by false true in_r is) ∙ h
-  set_up_here true false false in_r is before h =
-      next_about here p ps false (is_other_by true false in_r is) ∙ h
-      ∙ ap (λ (x : Bool). if_other (not x) p (other_pairs (insert_pair set_up held))) (sym in_r)
-      ∙ ap (λ (b : Bool). other_pairs (put_by b p held)) (sym before)
-  set_up_here false false false in_r is before h =
-      next_about here p ps true (is_other_by false false in_r is) ∙ ap (λ (qs : List Pair). p ∷ qs) h
-      ∙ ap (λ (x : Bool). if_other (not x) p (other_pairs (insert_pair set_up held))) (sym in_r)
-      ∙ ap (λ (b : Bool). other_pairs (put_by b p held)) (sym before)
+  set_up_here true false false in_r is before h = search (rules, next_about, is_other_by, set_up)
+  set_up_here false false false in_r is before h = search (rules, next_about, is_other_by, set_up)
 
 set_up_about : (ps : List Pair) → others_about (index_of (codes "SetUp") ps) ps ≡ other_pairs (insert_pair set_up (without_set_up ps))
 set_up_about [] = refl
@@ -123,14 +97,12 @@ pair_is : (name value : List ℕ) (p : Pair) → name ≡ p.name → value ≡ p
 pair_is name value p is_name is_value = sym (ap (λ (x : List ℕ). named x value) is_name ∙ ap (λ (y : List ℕ). named p.name y) is_value)
 
 get_next : (p : Pair) (qs : List Pair) (n : ℕ) → 0 < n → slice_get (p ∷ qs) n ≡ slice_get qs (n - 1)
-get_next p qs (Prim.Native.Nat.zero) some = absurd (omega (arith, some))
-get_next p qs (Prim.Native.Nat.suc n) some = ap (slice_get qs) (omega arith)
+get_next p qs n some = search rules
 
 -- a value found, or the default
 pub default_or : (o : Option (Bor (List ℕ))) (value unknown : Bor (List ℕ)) (found : Option (List ℕ)) → value ≡ unwrap_or o unknown → option_copied o ≡ found
     → value.now ≡ unwrap_or found unknown.now
-default_or None value unknown found is same = rw (is, ← same)
-default_or (Some v) value unknown found is same = rw (is, ← same)
+default_or o value unknown found is same = search rules
 
 pub first_pair : (ps : List Pair) (at : ℕ) (p : Pair) → at < length ps → p ≡ slice_index_or ps at p → drop at ps ≡ p ∷ drop (at + 1) ps
 first_pair ps at p within is = cc (drop-cons ps at p within, is, add-one at)
@@ -148,34 +120,20 @@ module _ (has_fen : Bool) (ps : List Pair) (index at left : ℕ) (passing : IsPa
 
     passes_some : is_other has_fen p ≡ true → (after : ℕ) → (z : Bool) → (left == 0) ≡ z → left_if z ≡ Some after
         → IsPassing has_fen ps index (at + 1) after
-    passes_some is after true zero is_left = absurd (none-some after is_left)
-    passes_some is after false zero is_left =
-        let some : 0 < left = some_if left (sym zero) in
-        let here : left - 1 ≡ after = same_some (left - 1) after is_left in record {
-          count = omega (arith, passing.count, ap (length {A = Pair}) (next_is true is), here, some);
-          same = passing.same ∙ ap (λ (qs : List Pair). slice_get qs left) (next_is true is) ∙ get_next p rest left some ∙ ap (slice_get rest) here;
-        }
+    passes_some is after z h1 is_left = search (rules, none-some, some_if, same_some, next_is, get_next)
 
     passes_by : (b : Bool) → is_other has_fen p ≡ b → (after : ℕ) → left_behind b left ≡ Some after → IsPassing has_fen ps index (at + 1) after
-    passes_by false is after left_is =
-        let same : left ≡ after = same_some left after left_is in record {
-          count = omega (arith, passing.count, ap (length {A = Pair}) (next_is false is), same);
-          same = passing.same ∙ ap (λ (qs : List Pair). slice_get qs left) (next_is false is) ∙ ap (slice_get rest) same;
-        }
-    passes_by true is after left_is = passes_some is after (left == 0) refl left_is
+    passes_by b is after left_is = search (rules, same_some, next_is, passes_some)
 
     pub passes_one : (after : ℕ) → left_behind (is_other has_fen p) left ≡ Some after → IsPassing has_fen ps index (at + 1) after
     passes_one after is = passes_by (is_other has_fen p) refl after is
 
     sought_last : is_other has_fen p ≡ true → (z : Bool) → (left == 0) ≡ z → left_if z ≡ None
         → slice_get (others has_fen ps) index ≡ Some p
-    sought_last is true zero none =
-        passing.same ∙ ap (λ (qs : List Pair). slice_get qs left) (next_is true is) ∙ ap (slice_get (p ∷ rest)) (empty_if left (sym zero))
-    sought_last is false zero none = absurd (none-some (left - 1) (sym none))
+    sought_last is z h1 none = search (rules, next_is, empty_if, none-some)
 
     sought_by : (b : Bool) → is_other has_fen p ≡ b → left_behind b left ≡ None → slice_get (others has_fen ps) index ≡ Some p
-    sought_by false is none = absurd (none-some left (sym none))
-    sought_by true is none = sought_last is (left == 0) refl none
+    sought_by b is none = search (rules, none-some, sought_last)
 
     pub is_sought : left_behind (is_other has_fen p) left ≡ None → (both : Bor (List ℕ) × Bor (List ℕ)) → both.0.now ≡ p.name → both.1.now ≡ p.value
         → slice_get (others has_fen ps) index ≡ Some (pair_of both)
@@ -187,8 +145,7 @@ module _ (has_fen : Bool) (ps : List Pair) (index at left : ℕ) (passing : IsPa
 -- what was found, if it was
 pub found_pair : (ps : List Pair) (index : ℕ) (r : Result (Bor (List ℕ) × Bor (List ℕ)) ℕ) → NthResult ps index r
     → option_map pair_of (result_ok r) ≡ slice_get ps index
-found_pair ps index (Ok both) is = sym is
-found_pair ps index (Err left) is = sym (slice_get_past ps index (omega (arith, is)))
+found_pair ps index r is = search (rules, slice_get_past)
 
 -- a pair of the two lists about SetUp
 pub about_front : (before after : List Pair) (i : ℕ) (p : Pair) → slice_get before i ≡ Some p → slice_get (before ++ set_up ∷ after) i ≡ Some p
@@ -204,9 +161,7 @@ about_behind before after left i is some =
 -- the pairs on both sides of SetUp's place
 pub both_sides : (ps before after : List Pair) (n : ℕ) → n ≡ index_of (codes "SetUp") ps → before ≡ take n ps → after ≡ drop n ps
     → has_pair ps (codes "FEN") ≡ true → others true before ++ set_up ∷ others true after ≡ other_pairs (with_set_up ps)
-both_sides ps before after n place front back some =
-    ap (λ (qs : List Pair). others true qs ++ set_up ∷ others true after) front ∙ ap (λ (qs : List Pair). others true (take n ps) ++ set_up ∷ others true qs) back
-    ∙ ap (λ (m : ℕ). others_about m ps) place ∙ others_with_fen ps some
+both_sides ps before after n place front back some = search (rules, set_up, others_with_fen)
 
 -- ---- the whole section
 
@@ -222,8 +177,7 @@ module _ (result : List ℕ) (ps : List Pair) where
   full_front i p is = get_front (roster_pairs result ps) (other_pairs (with_set_up ps)) i p is
 
   pub full_behind : (i left : ℕ) → 7 + left ≡ i → slice_get (exported Full result ps) i ≡ slice_get (other_pairs (with_set_up ps)) left
-  full_behind i left is =
-      get_behind (roster_pairs result ps) (other_pairs (with_set_up ps)) left i (omega (arith, seven_pairs, is))
+  full_behind i left is = search (rules, get_behind, seven_pairs)
 
   pub reduced_behind : (i : ℕ) → 7 ≤ i → slice_get (exported Reduced result ps) i ≡ None
   reduced_behind i from = slice_get_past (roster_pairs result ps) i (omega (arith, seven_pairs, from))

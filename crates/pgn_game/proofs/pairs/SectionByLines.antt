@@ -1,6 +1,6 @@
 -- A tag section is its lines one by one.
 use Rattle.pgn_game.specs.steps.SectionPairs.{others}
-use Rattle.pgn_game.proofs.Words.{◌≡◌, ℕ, Bool, true, false, cond, List, [], ◌∷◌, ◌++◌, take, drop, refl, ap, sym, ◌∙◌, append_assoc, arith, map, not, ◌||◌, unwrap_or, bytes_eq, codes, tag_line, Mode, Full, Reduced, Pair, value_of, has_pair, index_of, roster, in_roster, other_pairs, with_set_up, tag_lines, tag_section, text_by, roster_line, other_line, ◌&&◌}
+use Rattle.pgn_game.proofs.Words.{◌≡◌, ℕ, Bool, true, false, cond, List, [], ◌∷◌, ◌++◌, take, drop, refl, ap, sym, ◌∙◌, append_assoc, arith, map, not, unwrap_or, codes, tag_line, Mode, Full, Reduced, Pair, value_of, has_pair, index_of, roster, other_pairs, with_set_up, tag_lines, tag_section, text_by, roster_line, other_line, rules}
 use Rattle.pgn_game.proofs.pairs.ExportedValues.{set_up}
 use Rattle.pgn_game.proofs.pairs.SectionByIndex.{others_about, others_with_fen, others_without_fen}
 
@@ -17,27 +17,19 @@ abbrev line_unless : Bool → Pair → List ℕ
 line_unless b p = elim b [ true ↦ [] | false ↦ tag_line p.name p.value ]
 
 kept_line : (p : Pair) (ps : List Pair) (b : Bool) → line_unless b p ++ tag_lines ps ≡ tag_lines (cond (not b) (p ∷ ps) ps)
-kept_line p ps true = refl
-kept_line p ps false = refl
+kept_line p ps b = search rules
 
 -- those of the pairs outside the roster
 lines_of_others : (has_fen : Bool) (ps : List Pair) → text_by (other_line has_fen) ps ≡ tag_lines (others has_fen ps)
 lines_of_others has_fen [] = refl
-lines_of_others has_fen (p ∷ ps) =
-    ap (λ (xs : List ℕ). other_line has_fen p ++ xs) (lines_of_others has_fen ps)
-    ∙ kept_line p (others has_fen ps) (in_roster p.name || (has_fen && bytes_eq p.name (codes "SetUp")))
+lines_of_others has_fen (p ∷ ps) = search (rules, kept_line, (lines_of_others has_fen ps))
 
 -- the lines with SetUp's after so many pairs
 abbrev pub lines_about : ℕ → List Pair → List ℕ
 lines_about n ps = (text_by (other_line true) (take n ps) ++ tag_line (codes "SetUp") (codes "1")) ++ text_by (other_line true) (drop n ps)
 
 lines_of_about : (n : ℕ) (ps : List Pair) → lines_about n ps ≡ tag_lines (others_about n ps)
-lines_of_about n ps =
-    let line = tag_line (codes "SetUp") (codes "1") in
-    ap (λ (xs : List ℕ). (xs ++ line) ++ text_by (other_line true) (drop n ps)) (lines_of_others true (take n ps))
-    ∙ ap (λ (ys : List ℕ). (tag_lines (others true (take n ps)) ++ line) ++ ys) (lines_of_others true (drop n ps))
-    ∙ append_assoc (tag_lines (others true (take n ps))) line (tag_lines (others true (drop n ps)))
-    ∙ sym (tag_lines-append (others true (take n ps)) (set_up ∷ others true (drop n ps)))
+lines_of_about n ps = search (rules, lines_of_others, append_assoc, tag_lines-append, set_up)
 
 pub lines_without_fen : (ps : List Pair) → has_pair ps (codes "FEN") ≡ false
     → text_by (other_line false) ps ≡ tag_lines (other_pairs (with_set_up ps))

@@ -1,5 +1,5 @@
 -- The order of names, and places in it.
-use Rattle.pgn_game.proofs.Words.{◌≡◌, ℕ, suc, zero, ◌+◌, ◌<◌, ◌≤◌, Bool, true, false, List, [], ◌∷◌, length, refl, sym, ap, ◌∙◌, arith, None, Some, insert, take, drop, get_or, bytes_eq, false≢true, AllByRecursion, subst, Pair, has_pair, value_of, comes_before, insert_pair, AllAfter, InOrder, index_of, nat_tests, All-get_or, common_steps}
+use Rattle.pgn_game.proofs.Words.{◌≡◌, ℕ, suc, zero, ◌+◌, ◌<◌, ◌≤◌, Bool, true, false, List, [], ◌∷◌, length, refl, ap, arith, None, Some, insert, take, drop, get_or, bytes_eq, false≢true, AllByRecursion, Pair, has_pair, value_of, comes_before, insert_pair, AllAfter, InOrder, index_of, nat_tests, All-get_or, common_steps, rules}
 use Rattle.std.specs.Ordering.{nat_cmp, is_lt, is_some_and}
 use Rattle.std.specs.Cmp.Lexicographic.{slice_partial_cmp}
 use Rattle.std.proofs.lemmas.Cmp.{same_from_slice_cmp_tested}
@@ -25,14 +25,10 @@ insert-place p (q ∷ qs) =
 
 -- what holds of all elements holds of the first and the last of them
 pub all-take : {A : Type 0} (P : A → Type 0) (xs : List A) (k : ℕ) → AllByRecursion P xs → AllByRecursion P (take k xs)
-all-take P xs zero h = tt
-all-take P [] (suc k) h = tt
-all-take P (x ∷ xs) (suc k) h = (h.0, all-take P xs k h.1)
+all-take P xs k h = grind (arith, common_steps)
 
 pub all-drop : {A : Type 0} (P : A → Type 0) (xs : List A) (k : ℕ) → AllByRecursion P xs → AllByRecursion P (drop k xs)
-all-drop P xs zero h = h
-all-drop P [] (suc k) h = tt
-all-drop P (x ∷ xs) (suc k) h = all-drop P xs k h.1
+all-drop P xs k h = grind (arith, common_steps)
 
 pub order-take : (ps : List Pair) (k : ℕ) → InOrder ps → InOrder (take k ps)
 order-take ps zero h = tt
@@ -52,16 +48,14 @@ module _ (name : List ℕ) where
   pub index_of-le : (ps : List Pair) → index_of name ps ≤ length ps
   index_of-le [] = omega arith
   index_of-le (q ∷ qs) =
-      let rest = index_of-le qs in
-      elim (comes_before name q.name) as (λ b. index_if b (index_of name qs) ≤ length (q ∷ qs)) [ true ↦ omega arith | false ↦ omega arith ]
+      let rest = index_of-le qs in search rules
 
   -- it is at most that of a pair with a later name
   pub index-before : (ps : List Pair) (k : ℕ) {p : Pair} → k < length ps → p ≡ get_or ps k p → comes_before name p.name ≡ true → index_of name ps ≤ k
   index-before [] k l e later = absurd (omega arith)
   index-before (q ∷ qs) zero l e later = grind (arith, common_steps)
   index-before (q ∷ qs) (suc k) l e later =
-      let rest = index-before qs k (omega arith) e later in
-      elim (comes_before name q.name) as (λ b. index_if b (index_of name qs) ≤ suc k) [ true ↦ omega arith | false ↦ omega arith ]
+      let rest = index-before qs k (omega arith) e later in search rules
 
   -- and above that of a pair with no later name
   pub index-behind : (ps : List Pair) (k : ℕ) {p : Pair} → InOrder ps → k < length ps → p ≡ get_or ps k p → comes_before name p.name ≡ false
@@ -72,10 +66,7 @@ module _ (name : List ℕ) where
       by_test (index-behind qs k h.1 (omega arith) e early) _ refl
     where
       by_test : k < index_of name qs → (b : Bool) → comes_before name q.name ≡ b → suc k < index_if b (index_of name qs)
-      by_test rest true first =
-          let after = All-get_or (λ r. comes_before q.name r.name ≡ true) qs k p (omega arith) h.0 in
-          absurd (false≢true (sym early ∙ before-trans name q.name p.name first (subst (λ r. comes_before q.name r.name ≡ true) (sym e) after)))
-      by_test rest false later = omega arith
+      by_test rest b h1 = search (rules, All-get_or, false≢true, before-trans)
 
   -- a name that comes before all has index 0
   index-first : (qs : List Pair) → AllAfter name qs → index_of name qs ≡ 0
@@ -93,10 +84,7 @@ module _ (name : List ℕ) where
 
   -- a name that some pair has is not that of a pair before all of them
   other-name : (q : Pair) (qs : List Pair) (k : ℕ) (b : Bool) → AllAfter q.name qs → index_of name qs ≡ suc k → bytes_eq q.name name ≡ b → b ≡ false
-  other-name q qs k false h is e = refl
-  other-name q qs k true h is e =
-      let first : index_of name qs ≡ 0 = index-first qs (subst (λ n. AllAfter n qs) (bytes_eq-true _ _ e) h) in
-      absurd (omega arith)
+  other-name q qs k b h is e = search (rules, index-first, bytes_eq-true)
 
   -- the last pair before the index of a name has this name, or none has it
   pub value-behind : (ps : List Pair) (k : ℕ) {p : Pair} → InOrder ps → index_of name ps ≡ suc k → p ≡ get_or ps k p
@@ -106,8 +94,7 @@ module _ (name : List ℕ) where
     where
       by_test : (b : Bool) → comes_before name q.name ≡ b → index_if b (index_of name qs) ≡ 1
           → value_of (q ∷ qs) name ≡ pick (bytes_eq p.name name) p.value None
-      by_test true first is = absurd (omega arith)
-      by_test false later is = cc (value_of-cons q qs name, no_value _ (new-first qs h.1 (omega arith)), e)
+      by_test b h1 is = search (rules, value_of-cons, no_value, new-first)
   value-behind (q ∷ qs) (suc k) {p} h is e = by_test (λ at. value-behind qs k h.1 at e) _ refl is
     where
       by_test : (index_of name qs ≡ suc k → value_of qs name ≡ pick (bytes_eq p.name name) p.value None) → (b : Bool)
@@ -116,5 +103,4 @@ module _ (name : List ℕ) where
       by_test rest true first is = absurd (omega arith)
       by_test rest false later is =
           let at : index_of name qs ≡ suc k = omega arith in
-          let other = other-name q qs k (bytes_eq q.name name) h.0 at refl in
-          rw (value_of-cons q qs name, other) (rest at)
+          let other = other-name q qs k (bytes_eq q.name name) h.0 at refl in search (rules, value_of-cons)

@@ -1,5 +1,5 @@
 -- Pairs that are stored in another order.
-use Rattle.pgn_game.proofs.Words.{◌≡◌, IfSome, IsSomeAnd, length-map, length-set, refill, take-append_seam, insert_pair, IsSome, ℕ, suc, zero, ◌+◌, ◌<◌, ◌≤◌, ◌||◌, bytes_eq, codes, Bool, true, false, List, [], ◌∷◌, ◌++◌, length, refl, sym, ap, ◌∙◌, arith, Option, None, Some, insert, take, drop, get_or, set, map-append, Pair, has_pair, TagPairs, AllBelow, AreInOrder, FitsPairStore, HasBegun, InOrder, index_of, pair_at, placed, pairs_seen, get_or-set_other, get_or-set_same, get_or_append_left, get_or_read, length_push, take-map, drop-map, common_steps}
+use Rattle.pgn_game.proofs.Words.{◌≡◌, IfSome, IsSomeAnd, length-map, length-set, refill, take-append_seam, insert_pair, IsSome, ℕ, ◌+◌, ◌<◌, ◌≤◌, ◌||◌, bytes_eq, codes, Bool, true, false, List, [], ◌∷◌, ◌++◌, length, refl, sym, ap, ◌∙◌, arith, Option, None, Some, insert, take, drop, get_or, set, map-append, Pair, has_pair, TagPairs, AllBelow, AreInOrder, FitsPairStore, HasBegun, InOrder, index_of, pair_at, placed, pairs_seen, get_or-set_other, get_or-set_same, get_or_append_left, get_or_read, length_push, take-map, drop-map, common_steps, rules}
 use Rattle.std.proofs.lemmas.List.Edits.{length-insert}
 use Rattle.pgn_game.proofs.pairs.NameOrder.{order-insert}
 use Rattle.pgn_game.proofs.pairs.ValuesByName.{has-insert}
@@ -21,14 +21,11 @@ placed-push ps p (i ∷ is) h = cc (get_or_append_left ps (p ∷ []) empty i h.0
 
 pub placed-insert : (ps : List Pair) (order : List ℕ) (k i : ℕ)
     → placed ps (insert order k i) ≡ insert (placed ps order) k (pair_at ps i)
-placed-insert ps order k i =
-    cc (map-append (pair_at ps) (take k order) (i ∷ drop k order), take-map (pair_at ps) k order, drop-map (pair_at ps) k order)
+placed-insert ps order k i = search (rules, map-append, take-map, drop-map)
 
 -- places
 pub below-insert : {n : ℕ} (order : List ℕ) (k i : ℕ) → AllBelow n order → i < n → AllBelow n (insert order k i)
-below-insert order zero i h l = (l, h)
-below-insert [] (suc k) i h l = (l, tt)
-below-insert (j ∷ js) (suc k) i h l = (h.0, below-insert js k i h.1 l)
+below-insert order k i h l = grind (arith, common_steps)
 
 pub below-more : {n m : ℕ} (order : List ℕ) → AllBelow n order → n ≤ m → AllBelow m order
 below-more [] h l = tt
@@ -56,8 +53,7 @@ abbrev seen_of : List Pair → List ℕ → Bool → TagPairs
 seen_of ps order b = pairs_seen (placed ps order) (pair_at ps (length order)) b
 
 all-held : (held : List Pair) (p : Pair) (b : Bool) {t : TagPairs} → pairs_seen held p b ≡ t → t.pending_name ≡ None → held ≡ t.held
-all-held held p false e none = ap (λ (s : TagPairs). s.held) e
-all-held held p true e none = absurd (cc)
+all-held held p b e none = search rules
 
 module _ (ps : List Pair) (order : List ℕ) (b : Bool) {t : TagPairs} where
   pub stored-held : seen_of ps order b ≡ t → t.pending_name ≡ None → placed ps order ≡ t.held
@@ -70,8 +66,7 @@ abbrev IsBegun : List Pair → Pair → Bool → TagPairs → Type 0
 IsBegun held p b t = (b ≡ true) × (t ≡ seen held (Some p.name))
 
 by_flag : (held : List Pair) (p : Pair) (b : Bool) {t : TagPairs} → pairs_seen held p b ≡ t → IsSome t.pending_name → IsBegun held p b t
-by_flag held p true e some = (refl, sym e)
-by_flag held p false e some = absurd (cc)
+by_flag held p b e some = search rules
 
 pub stored-begun : (ps : List Pair) (order : List ℕ) (b : Bool) {t : TagPairs} → seen_of ps order b ≡ t → IsSome t.pending_name
     → IsBegun (placed ps order) (pair_at ps (length order)) b t
@@ -115,10 +110,7 @@ begun-stored {most} {ps} {order} {n} p place has at sorted new index fen =
     grind (arith, common_steps, set, get_or-set_same, placed-set, length-set)
 
 or-swap : (a b : Bool) → (a || b) ≡ (b || a)
-or-swap true true = refl
-or-swap true false = refl
-or-swap false true = refl
-or-swap false false = refl
+or-swap a b = search rules
 
 -- Its value comes, and its place goes into the order.
 pub place-within : {most : ℕ} {ps : List Pair} {order : List ℕ} {place : ℕ} {b e : Bool} {t : TagPairs}
@@ -164,10 +156,7 @@ module _ {most : ℕ} {ps : List Pair} {order : List ℕ} {place : ℕ} {b e : B
   -- a FEN is among them if the new one is
   fen-put : (q : Pair) (is_fen : Bool) → IsPut ps order place n q → is_fen ≡ bytes_eq q.name (codes "FEN")
       → (e || is_fen) ≡ has_pair (placed (set ps n q) (insert order place n)) (codes "FEN")
-  fen-put q is_fen put is =
-      ap (λ (b : Bool). b || is_fen) fits.fen ∙ or-swap (has_pair (placed ps order) (codes "FEN")) is_fen
-      ∙ ap (λ (b : Bool). b || has_pair (placed ps order) (codes "FEN")) is
-      ∙ sym (has-insert q (placed ps order) (codes "FEN")) ∙ ap (λ (qs : List Pair). has_pair qs (codes "FEN")) (sym put.pairs)
+  fen-put q is_fen put is = search (rules, or-swap, has-insert)
 
   -- the name is that of the pair
   fen-name : (q : Pair) (is_fen : Bool) → q.name ≡ p.name → IfSome t.pending_name (λ name. is_fen ≡ bytes_eq name (codes "FEN"))
@@ -178,5 +167,4 @@ module _ {most : ℕ} {ps : List Pair} {order : List ℕ} {place : ℕ} {b e : B
       → IfSome t.pending_name (λ name. is_fen ≡ bytes_eq name (codes "FEN"))
       → FitsPairStore most (refill (length ps) ps (set ps n q)) more place false (e || is_fen)
   completed-stored q value more is_fen new is_more fen =
-      let named_fen = fen-name q is_fen (ap (λ (r : Pair). r.name) new) fen in
-      grind (arith, common_steps, is-put, fen-put, length-set, length-insert, place-within, below-insert, below-more, order-insert)
+      grind (arith, common_steps, fen-name, is-put, fen-put, length-set, length-insert, place-within, below-insert, below-more, order-insert)

@@ -1,5 +1,5 @@
 -- The values of names in pairs that are joined, filtered, or put in one after another.
-use Rattle.pgn_game.proofs.Words.{◌≡◌, ℕ, ◌||◌, Bool, true, false, cond, List, [], ◌∷◌, ◌++◌, refl, sym, ap, ◌∙◌, Option, None, Some, bytes_eq, filter, is_some, AllByRecursion, false≢true, or_parts, bytes_eq-Decides, Pair, value_of, has_pair, comes_before, insert_pair, arith, rules}
+use Rattle.pgn_game.proofs.Words.{◌≡◌, ℕ, ◌||◌, Bool, true, false, cond, List, [], ◌∷◌, ◌++◌, refl, sym, ap, ◌∙◌, Option, None, Some, bytes_eq, filter, is_some, AllByRecursion, false≢true, or_parts, bytes_eq-Decides, Pair, value_of, has_pair, insert_pair, arith, rules}
 
 pub bytes_eq-true : (xs ys : List ℕ) → bytes_eq xs ys ≡ true → xs ≡ ys
 bytes_eq-true xs ys e = (bytes_eq-Decides xs ys).0 e
@@ -15,8 +15,7 @@ pub bytes_eq-sym : (xs ys : List ℕ) → bytes_eq xs ys ≡ bytes_eq ys xs
 bytes_eq-sym xs ys = grind (arith, bytes_eq-true, bytes_eq-refl, same_bool)
 
 pub no_value : {A : Type 0} (o : Option A) → is_some o ≡ false → o ≡ None
-no_value None e = refl
-no_value (Some v) e = absurd (false≢true (sym e))
+no_value o e = search (rules, false≢true)
 
 -- The value of a name, from whether the first pair has this name.
 abbrev pub pick : Bool → List ℕ → Option (List ℕ) → Option (List ℕ)
@@ -28,8 +27,7 @@ pub value_of-cons : (p : Pair) (ps : List Pair) (name : List ℕ)
 value_of-cons p ps name = grind arith
 
 some_pick : (b : Bool) (v : List ℕ) (o : Option (List ℕ)) → is_some (pick b v o) ≡ (b || is_some o)
-some_pick true v o = refl
-some_pick false v o = refl
+some_pick b v o = search rules
 
 pub has-cons : (q : Pair) (ps : List Pair) (name : List ℕ) → has_pair (q ∷ ps) name ≡ (bytes_eq q.name name || has_pair ps name)
 has-cons q ps name = cc (value_of-cons q ps name, some_pick (bytes_eq q.name name) q.value (value_of ps name))
@@ -54,12 +52,10 @@ either_of (Some value) other = Some value
 either_of None other = other
 
 pub either_none : (o : Option (List ℕ)) → either_of o None ≡ o
-either_none None = refl
-either_none (Some v) = refl
+either_none o = search rules
 
 pick_either : (b : Bool) (v : List ℕ) (o p : Option (List ℕ)) → pick b v (either_of o p) ≡ either_of (pick b v o) p
-pick_either true v o p = refl
-pick_either false v o p = refl
+pick_either b v o p = search rules
 
 pub value_of-append : (ps qs : List Pair) (name : List ℕ) → value_of (ps ++ qs) name ≡ either_of (value_of ps name) (value_of qs name)
 value_of-append [] qs name = refl
@@ -76,26 +72,16 @@ kept_or_not f p n k b F o h1 h2 h3 = search (rules, bytes_eq-true, value_of-cons
 pub value_of-kept : (f : List ℕ → Bool) (ps : List Pair) (n : List ℕ)
     → value_of (filter (λ p. f p.name) ps) n ≡ cond (f n) (value_of ps n) None
 value_of-kept f [] n = elim (f n) as (λ c. None ≡ cond {A = Option (List ℕ)} c None None) [ true ↦ refl | false ↦ refl ]
-value_of-kept f (p ∷ ps) n =
-    cc (
-      kept_or_not f p n (f p.name) (bytes_eq p.name n) (filter (λ q. f q.name) ps) (value_of ps n) refl refl (value_of-kept f ps n),
-      value_of-cons p ps n,
-    )
+value_of-kept f (p ∷ ps) n = search (rules, kept_or_not, value_of-cons, (value_of-kept f ps n))
 
 -- A pair put in: what holds where it comes first, and of a pair before it, holds of all.
 pub by_insert : (P : List Pair → List Pair → Type 0) (q : Pair) → ((qs : List Pair) → P qs (q ∷ qs))
     → ((r : Pair) (rs more : List Pair) → P rs more → P (r ∷ rs) (r ∷ more)) → (qs : List Pair) → P qs (insert_pair q qs)
 by_insert P q first later [] = first []
-by_insert P q first later (r ∷ rs) =
-    elim (comes_before q.name r.name) as (λ b. P (r ∷ rs) (elim b [ true ↦ q ∷ r ∷ rs | false ↦ r ∷ insert_pair q rs ])) [
-      | true ↦ first _
-      | false ↦ (later r rs (insert_pair q rs) (by_insert P q first later rs))
-    ]
+by_insert P q first later (r ∷ rs) = search (rules, (by_insert P q first later rs))
 
 or_swap : (a b c : Bool) → (a || (b || c)) ≡ (b || (a || c))
-or_swap true true c = refl
-or_swap true false c = refl
-or_swap false b c = refl
+or_swap a b c = search rules
 
 -- a name is among the pairs with one more
 pub has-insert : (q : Pair) (ps : List Pair) (name : List ℕ) → has_pair (insert_pair q ps) name ≡ (bytes_eq q.name name || has_pair ps name)
@@ -124,8 +110,7 @@ pub value_of-put : (q : Pair) (qs : List Pair) (n : List ℕ) → has_pair qs q.
 value_of-put q qs n =
     by_insert (λ ps l. has_pair ps q.name ≡ false → value_of l n ≡ pick (bytes_eq q.name n) q.value (value_of ps n)) q
     (λ ps new. value_of-cons q ps n) (λ r rs l more new.
-    let apart = not_among r rs _ new in
-    cc (value_of-cons r l n, more apart.1, pick_swap r.value q.value (value_of rs n) (two_names _ q.name n apart.0), value_of-cons r rs n)) qs
+    let apart = not_among r rs _ new in search (rules, value_of-cons, pick_swap, two_names)) qs
 
 pub all-insert : (P : Pair → Type 0) (q : Pair) (qs : List Pair) → P q → AllByRecursion P qs → AllByRecursion P (insert_pair q qs)
 all-insert P q qs h =

@@ -1,6 +1,6 @@
 -- The levels as they are kept and as contracts see them: kept with the main line first, seen with
 -- the nearest first.
-use Rattle.pgn_game.proofs.Words.{◌≡◌, ℕ, ◌+◌, ◌-◌, ◌<◌, ◌≤◌, List, [], ◌∷◌, ◌++◌, length, length-map, map, refl, sym, ap, ◌∙◌, arith, length-append, get_or, set, take, refill, take-append_seam, Option, None, Some, IsSomeAnd, Parts, get_or-append_seam, set-append_seam, common_steps, StoredLevel, StoredLevels, inside, code_levels, nearest_first, places_of, level_at, level_of, FitsLevelStore, ClosesLevel}
+use Rattle.pgn_game.proofs.Words.{◌≡◌, ℕ, ◌+◌, ◌-◌, ◌<◌, ◌≤◌, List, [], ◌∷◌, ◌++◌, length, length-map, map, refl, sym, ap, ◌∙◌, arith, length-append, get_or, set, take, refill, take-append_seam, Option, None, Some, IsSomeAnd, Parts, get_or-append_seam, set-append_seam, common_steps, StoredLevel, StoredLevels, inside, code_levels, nearest_first, places_of, level_at, level_of, FitsLevelStore, ClosesLevel, rules}
 use Rattle.pgn_game.proofs.pairs.StoredPlaces.{written}
 use Rattle.pgn_game.specs.declared.levels.Level.{Level as CodeLevel}
 
@@ -13,8 +13,7 @@ inside-snoc ls (None ∷ xs) l = inside-snoc ls xs l
 
 inside-places : (ls : List CodeLevel) → inside [] (places_of ls) ≡ map level_of ls
 inside-places [] = refl
-inside-places (l ∷ around) =
-    inside-snoc [] (places_of around) l ∙ ap (λ (ls : List StoredLevel). level_of l ∷ ls) (inside-places around)
+inside-places (l ∷ around) = search (rules, inside-snoc, (inside-places around))
 
 -- what is seen of these levels
 pub seen : (current : CodeLevel) (around : List CodeLevel)
@@ -40,8 +39,7 @@ module _ {most : ℕ} {places : List (Option CodeLevel)} (fits : FitsLevelStore 
 
   -- without the last place, and with one more
   pub popped : (rest : List (Option CodeLevel)) → rest ≡ take (length places - 1) places → rest ≡ front
-  popped rest is =
-      is ∙ ap (λ (i : ℕ). take i places) last ∙ ap (take (length front)) fits.there ∙ take-append_seam front (Some fits.current ∷ [])
+  popped rest is = search (rules, last, take-append_seam)
 
   pub pushed : (more : List (Option CodeLevel)) (l : CodeLevel) → more ≡ places ++ Some l ∷ [] → more ≡ places_of (l ∷ fits.current ∷ fits.around)
   pushed more l is = is ∙ ap (λ (ps : List (Option CodeLevel)). ps ++ Some l ∷ []) fits.there

@@ -1,6 +1,5 @@
 -- From what a marker is judged to what its game answers, once it is written or could not be.
-use Rattle.pgn_game.proofs.Words.{◌≡◌, ◌&&◌, ◌↔◌, ℕ, Bool, true, false, IsTrue, List, [], Option, Result, Ok, Err, OnOk, is_some, refl, sym, ap, subst, ◌∙◌, arith, Appends, AppendsFront, Writes, WritesText, Device, device, Kind, Marker, Reason, Stage, Between, AfterLeftBracket, AfterName, AfterValue, AfterTags, InMovetext, Pair, GameState, GameCall, KeepsSilence, Writing, BeginsText, EndsAtMarker, RefusesMarker, FinishesAtMarker, IsOpen, ItemCall, Mode, PutResult, PutsMarker, TakesMarker, Writer, WriteFault, ending_if, game_by, is_nothing, known_of, line_behind, marker_of, marker_text, may_have_movetext, mode_of_written, section_due, section_due_of, section_unless, seen, tag_section, writing_of, Written}
-use Rattle.pgn_game.specs.declared.mode.Written.TheVariants.{Full, Reduced, Nothing}
+use Rattle.pgn_game.proofs.Words.{◌≡◌, ◌&&◌, ◌↔◌, ℕ, Bool, true, false, IsTrue, List, [], Option, Result, Ok, Err, OnOk, is_some, refl, sym, ap, subst, ◌∙◌, arith, Appends, AppendsFront, WritesText, Device, device, Kind, Marker, Reason, Stage, Between, InMovetext, Pair, GameState, GameCall, KeepsSilence, Writing, BeginsText, EndsAtMarker, RefusesMarker, FinishesAtMarker, IsOpen, ItemCall, Mode, PutResult, PutsMarker, TakesMarker, Writer, WriteFault, ending_if, game_by, is_nothing, known_of, line_behind, marker_of, marker_text, may_have_movetext, mode_of_written, section_due, section_due_of, section_unless, seen, tag_section, writing_of, Written, rules}
 use Rattle.pgn_layout.specs.declared.sink.WriteFault.{WriteFault as Fault}
 use Rattle.pgn_game.specs.steps.TokenTaken.{ended}
 use Rattle.pgn_game.proofs.putting.MarkerToReader.{EndsText, ends_ill, ends_silent, ends_unbegun, ends_well, ending, finished_reader, to_game, writes_if_failed}
@@ -9,39 +8,26 @@ use Rattle.pgn_game.proofs.stepping.PairsTriedForToken.{marker_untried}
 use Rattle.pgn_game.proofs.stepping.PutToAnswer.{entry_refused, takes_marker}
 
 not_begun : (begun : Bool) → (IsTrue begun → ⊥) → begun ≡ false
-not_begun true no_more = absurd (no_more refl)
-not_begun false no_more = refl
+not_begun begun no_more = search rules
 
 -- the section is missing, unless movetext has begun
 missing_is : (stage : Stage) (begun : Bool) (mode : Mode) (known : List ℕ) (ps : List Pair) → IsTrue begun ↔ (stage ≡ InMovetext)
     → section_unless begun (tag_section mode known ps) ≡ section_due stage mode known ps
-missing_is InMovetext begun mode known ps is = rw (is.1 refl) refl
-missing_is Between begun mode known ps is = rw (not_begun begun (λ b. absurd (cc (is.0 b)))) refl
-missing_is AfterLeftBracket begun mode known ps is = rw (not_begun begun (λ b. absurd (cc (is.0 b)))) refl
-missing_is AfterName begun mode known ps is = rw (not_begun begun (λ b. absurd (cc (is.0 b)))) refl
-missing_is AfterValue begun mode known ps is = rw (not_begun begun (λ b. absurd (cc (is.0 b)))) refl
-missing_is AfterTags begun mode known ps is = rw (not_begun begun (λ b. absurd (cc (is.0 b)))) refl
+missing_is stage begun mode known ps is = search (rules, not_begun)
 
 -- a writer that is not silent has a mode
 some_mode : (w : Written) (line marker : List ℕ) → is_nothing w ≡ false → ending_if (mode_of_written w) line marker ≡ ending line marker
-some_mode Full line marker is = refl
-some_mode Reduced line marker is = refl
-some_mode Nothing line marker is = absurd (cc)
+some_mode w line marker is = search rules
 
 some_line : (w : Written) (line : List ℕ) → is_nothing w ≡ false → line_behind (mode_of_written w) line ≡ []
-some_line Full line is = refl
-some_line Reduced line is = refl
-some_line Nothing line is = absurd (cc)
+some_line w line is = search rules
 
 no_line : (w : Written) (line : List ℕ) → is_nothing w ≡ true → line_behind (mode_of_written w) line ≡ line
-no_line Full line is = absurd (cc)
-no_line Reduced line is = absurd (cc)
-no_line Nothing line is = refl
+no_line w line is = search rules
 
 at_marker : (k : Kind) (new : GameState) (r : Result (Unit {0}) Reason) → IsTrue (is_some (marker_of k)) → OnOk r (new.stage ≡ Between)
     → FinishesAtMarker k new (ended r)
-at_marker k new (Ok done) is at = (is, at)
-at_marker k new (Err reason) is at = tt
+at_marker k new r is at = search rules
 
 -- A row of the table rejects the marker.
 pub marker_refused : {S : Type 0} {taken : S → Option (List ℕ)} {failures : S → ℕ} {a : S} (w : Writer) (old new : GameState) (marker : Marker)
@@ -71,9 +57,7 @@ module _ {S : Type 0} (taken : S → Option (List ℕ)) (failures : S → ℕ) (
 
   -- the section is that of the game before
   section_is : section_unless begun (tag_section judge.profile.mode (known_of (game_by w judge)) judge.tags.held) ≡ section_due_of game
-  section_is =
-      ap (λ (r : GameState). section_unless begun (tag_section r.profile.mode (known_of (game_by w r)) r.tags.held)) h.after
-      ∙ missing_is old.stage begun old.profile.mode (known_of game) old.tags.held is
+  section_is = search (rules, missing_is)
 
   answers : (new : GameState) (d : Device) (r : Result (Unit {0}) Reason) → new.most_probes ≡ old.most_probes → OnOk r (new.stage ≡ Between)
       → PutResult game (IsOpen game) (to_game marker) new (ended r) d → TakesMarker game marker new r d
@@ -92,19 +76,9 @@ module _ {S : Type 0} (taken : S → Option (List ℕ)) (failures : S → ℕ) (
     unbegun_marker f section =
         let new = game_by begun_w judge in
         let how : new.writing ≡ game.writing = ap writing_of writer in
-        let begins : BeginsText {A = Unit {0}} game new (Err f) first = record {
-          text = rw section_is at section.writes.written;
-          begun = tt;
-          profile = ap (λ (r : GameState). r.profile) h.after;
-          writing = how;
-          earlier = ap (λ (r : GameState). r.earlier_plies) h.after;
-          plies = ap (λ (r : GameState). r.text.plies) h.after;
-          probes = ap (λ (r : GameState). r.most_probes) h.after;
-          counted = section.writes.counted;
-        } in
+        let begins : BeginsText {A = Unit {0}} game new (Err f) first = search (rules, section_is) in
         record {
-          takes = answers new first (Err WriteFault) (ap (λ (r : GameState). r.most_probes) h.after) tt
-              (ends_unbegun game new marker f first (writes_if_failed (is_nothing w.written) _ _ section.writes.counted) at begins);
+          takes = search (rules, answers, ends_unbegun, writes_if_failed);
           silent = record { silent = ap (λ (x : Writing). x.is_silent) how; untouched = section.silent };
         }
 
@@ -115,16 +89,7 @@ module _ {S : Type 0} (taken : S → Option (List ℕ)) (failures : S → ℕ) (
       goes = game_by new_w judge
 
       begins : BeginsText {A = Unit {0}} {E = Fault} game (record game { stage = InMovetext }) (Ok tt) first
-      begins = record {
-        text = subst (λ (t : List ℕ). Writes {A = Unit {0}} {E = Fault} first.before first.after (Ok tt) t) section_is section.writes.written;
-        begun = refl;
-        profile = refl;
-        writing = refl;
-        earlier = refl;
-        plies = refl;
-        probes = refl;
-        counted = section.writes.counted;
-      }
+      begins = search (rules, section_is)
 
       -- the marker was put by the writer before the section, but for its flag
       as_before : ItemCall w.written taken failures b c
@@ -135,42 +100,22 @@ module _ {S : Type 0} (taken : S → Option (List ℕ)) (failures : S → ℕ) (
       how = ap writing_of as_before.writes.writer
 
       goes_is : goes ≡ finished_reader new_w.line (marker_text marker) (record game { stage = InMovetext })
-      goes_is =
-          ap (game_by new_w) h.after
-          ∙ ap (λ (x : Writing). record old {
-            writing = x;
-            stage = Between;
-            text = record old.text { is_after_move = false };
-            line = new_w.line;
-            marker = marker_text marker;
-          }) how
+      goes_is = search (rules, how)
 
       most : goes.most_probes ≡ old.most_probes
       most = ap (λ (r : GameState). r.most_probes) h.after
 
       silence : KeepsSilence game goes a c
-      silence = record {
-        silent = ap (λ (x : Writing). x.is_silent) how;
-        untouched = λ silent. as_before.silent silent ∙ section.silent silent;
-      }
+      silence = search (rules, how)
 
       -- a game that is written
       ends : is_nothing w.written ≡ false
           → EndsText game (record game { stage = InMovetext }) marker (marker_text marker) (taken a) (taken b) (failures a) (failures b)
-      ends writes = record {
-        writes = writes;
-        begins = unseen (λ d. BeginsText {A = Unit {0}} {E = Fault} game (record game { stage = InMovetext }) (Ok tt) d) (is_nothing w.written)
-            (device taken failures a b) writes begins;
-        outside = h.outside;
-        spells = refl;
-        at = at;
-      }
+      ends writes = search (rules, begins, unseen)
 
       plain_put : is_nothing w.written ≡ false
           → PutsMarker (mode_of_written w.written) (marker_text marker) (record w { is_after_move = begun && w.is_after_move }) new_w r (device taken failures b c)
-      plain_put writes =
-          unseen (λ d. PutsMarker (mode_of_written w.written) (marker_text marker) (record w { is_after_move = begun && w.is_after_move }) new_w r d)
-          (is_nothing w.written) (device taken failures b c) writes as_before.writes
+      plain_put writes = search (rules, unseen)
 
     module _ (section : ItemCall w.written taken failures a b (λ by d. WritesText {A = Unit {0}} {E = Fault} d (Ok tt)
         (section_unless begun (tag_section judge.profile.mode (known_of (game_by w judge)) judge.tags.held)))) (new_w : Writer) (c : S) where

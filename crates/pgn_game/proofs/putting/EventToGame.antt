@@ -1,5 +1,5 @@
 -- From what a token means to what its game answers, once it is written or could not be.
-use Rattle.pgn_game.proofs.Words.{Bor, IsEntry, codes, decimal, ◌++◌, Profile, Written, marker_of, TakesMeant, ◌≡◌, ◌&&◌, ◌||◌, not, None, Some, Parts, StoredLevels, IsAnnotation, IsWritable, ItemCall, PutsAnnotation, PutsMove, WritesMove, token_if, writes_annotations, ◌+◌, ◌<◌, ◌≤◌, ℕ, max, Bool, true, false, IsTrue, List, [], ◌∷◌, Option, Result, Ok, Err, inl, inr, refl, sym, ap, subst, ◌∙◌, arith, common_steps, length, Move, Movetext, Kind, Mode, Part, More, Event, InMovetext, Item, going, is_move, is_written, GameState, GameCall, KeepsSilence, LeavesSink, BeginsText, Means, IsOpen, TakesEntry, TakesEntryPlaced, Adds, PutsTokens, PutResult, Plays, Annotates, Writer, Writing, WriteFault, MovesText, after_move_at, after_move_if, counting_probes, device, game_by, is_nothing, items_meant, may_have_movetext, mode_of_written, mode_unless, mode_written, pairs_meant, seen, tokens_if, with_items, writing_of, Device, Reason, AppendsFront}
+use Rattle.pgn_game.proofs.Words.{Bor, IsEntry, codes, decimal, ◌++◌, Profile, Written, marker_of, TakesMeant, ◌≡◌, ◌||◌, None, Some, Parts, StoredLevels, IsAnnotation, IsWritable, ItemCall, PutsAnnotation, PutsMove, WritesMove, ◌+◌, ◌<◌, ◌≤◌, ℕ, max, Bool, true, false, IsTrue, List, [], ◌∷◌, Option, Result, Ok, Err, inl, inr, refl, sym, ap, subst, ◌∙◌, arith, common_steps, length, Move, Movetext, Kind, Mode, Part, More, Event, InMovetext, Item, going, is_move, is_written, GameState, GameCall, KeepsSilence, LeavesSink, BeginsText, Means, IsOpen, TakesEntry, TakesEntryPlaced, Adds, PutsTokens, PutResult, Plays, Writer, WriteFault, MovesText, after_move_at, after_move_if, counting_probes, device, game_by, is_nothing, items_meant, may_have_movetext, mode_of_written, mode_unless, mode_written, pairs_meant, seen, tokens_if, with_items, writing_of, Device, Reason, rules}
 use Rattle.pgn_layout.specs.declared.sink.WriteFault.{WriteFault as Fault}
 use Rattle.pgn_game.specs.games.Game.{move}
 use Rattle.pgn_game.specs.games.Game as games
@@ -8,7 +8,7 @@ use Rattle.pgn_game.specs.declared.event.Event.TheVariants as events
 use Rattle.pgn_game.proofs.putting.ItemToMovetext.{Advances, adds_front, adds_put, annotation_ends, annotation_tokens, goes_on, plays_on}
 use Rattle.pgn_game.proofs.putting.ItemToReader.{IsAfterItem, fails_item, gain_is, lines_gain, puts_item, puts_number, to_items, unbegun_part, unwritten}
 use Rattle.pgn_game.proofs.putting.TokenAtPlace.{at_keeps}
-use Rattle.pgn_game.proofs.putting.WritesInTurn.{front_of_more}
+use Rattle.pgn_layout.proofs.OneWriteMore.{front_of_more}
 use Rattle.pgn_game.proofs.stepping.PairsTriedForToken.{CostsToPut, adds_item, adds_move, adds_none}
 use Rattle.pgn_game.proofs.stepping.PutToAnswer.{takes_event}
 
@@ -36,25 +36,13 @@ few_counted : (deep : ℕ) → counted_at deep ≤ 1
 few_counted deep = grind (arith, common_steps)
 
 few_more : (e : Event) (old new : Movetext) → MovesText e old new → new.plies ≤ old.plies + 1
-few_more (events.Move m n) old new h = omega (arith, h.plies, few_counted (length old.levels.around))
-few_more events.Number old new h = omega (arith, h.plies)
-few_more (events.Glyph n) old new h = omega (arith, h.plies)
-few_more events.CommentOpen old new h = omega (arith, h.plies)
-few_more (events.Word text) old new h = omega (arith, h.plies)
-few_more events.CommentClose old new h = omega (arith, h.plies)
-few_more events.Open old new h = omega (arith, h.plies)
-few_more events.Close old new h = omega (arith, h.plies)
-few_more (events.Marker marker) old new h = omega (arith, h.plies)
+few_more e old new h = search (rules, few_counted)
 
 pub number_means_same : (e : Event) (old new : Movetext) → e ≡ events.Number → MovesText e old new → new ≡ old
-number_means_same e old new is h =
-    let same : Annotates events.Number old new = subst (λ (x : Event). MovesText x old new) is h in
-    ap (λ (ls : StoredLevels). record new { levels = ls }) same.levels ∙ ap (λ (n : ℕ). record new { levels = old.levels; plies = n }) same.plies
-    ∙ ap (λ (b : Bool). record old { is_after_move = b }) same.is_after_move
+number_means_same e old new is h = search rules
 
 or_elim : (b x : Bool) → (b || x) ≡ elim b [ true ↦ true | false ↦ x ]
-or_elim true x = refl
-or_elim false x = refl
+or_elim b x = search rules
 
 -- The reader has judged the token, and so moved its levels, before the section is written. That is
 -- the same as if it were written before that.
@@ -67,31 +55,12 @@ module _ (w : Writer) (old : GameState) (text : Movetext) (n : ℕ) where
 
   begins_found : {new : GameState} {d : Device} → BeginsText {A = Unit {0}} {E = Fault} (game_by w judged) new (Ok tt) d
       → BeginsText {A = Unit {0}} {E = Fault} found (record found { stage = InMovetext }) (Ok tt) d
-  begins_found begins = record {
-    text = begins.text;
-    begun = refl;
-    profile = refl;
-    writing = refl;
-    earlier = refl;
-    plies = refl;
-    probes = refl;
-    counted = begins.counted;
-  }
+  begins_found begins = search rules
 
   -- the section could not be written
   unbegun : (new : GameState) (more : List Item) (f : Fault) (d : Device) → IsTrue (may_have_movetext old.stage) → text.plies ≤ old.text.plies + 1
       → BeginsText {A = Unit {0}} (game_by w judged) new (Err f) d → PutResult found (IsOpen found) (to_items more) new (Err WriteFault) d
-  unbegun new more f d at few begins =
-      unwritten found new (IsOpen found) (to_items more) d
-      (record {
-        profile = begins.profile;
-        writing = begins.writing;
-        plies = omega (arith, few, begins.earlier, begins.plies);
-        probes = omega (arith, begins.probes);
-      })
-      begins.counted (λ part is.
-      subst (AppendsFront d.before d.after) (gain_is found part more at is)
-      (front_of_more d.before d.after _ (lines_gain old.profile.mode part.pairs part.items more) begins.text))
+  unbegun new more f d at few begins = grind (arith, common_steps, unwritten, to_items, gain_is, front_of_more, lines_gain)
 
 -- The calls of a game, in turn, of a token that means e: it was judged, the section was begun, and
 -- its item, if it has one, was written.
@@ -128,19 +97,14 @@ module _ {S : Type 0} (taken : S → Option (List ℕ)) (failures : S → ℕ) (
       (BeginsText {A = Unit {0}} {E = Fault} (game_by w judge) (game_by begun_w begun_r) (Ok tt))) where
     begins : BeginsText {A = Unit {0}} {E = Fault} start (record start { stage = InMovetext }) (Ok tt)
         (seen (is_nothing w.written) (device taken failures a b))
-    begins =
-        begins_found w old judge.text (pairs_meant e)
-        (subst (λ (r : GameState). BeginsText {A = Unit {0}} {E = Fault} (game_by w r) (game_by begun_w begun_r) (Ok tt)
-        (seen (is_nothing w.written) (device taken failures a b))) means.after call.takes)
+    begins = search (rules, begins_found)
 
     -- a number or a period, which adds nothing
     pub number_taken : items_meant e ≡ [] → pairs_meant e ≡ 0 → judge.text ≡ old.text
         → GameCall taken failures game (game_by begun_w begun_r) a b (TakesEntry game k (game_by begun_w begun_r) (Ok More))
     number_taken none untried same =
         let d = seen (is_nothing w.written) (device taken failures a b) in
-        let new : game_by begun_w begun_r ≡ record start { stage = InMovetext } =
-        call.takes.begun ∙ ap (λ (r : GameState). record (game_by w r) { stage = InMovetext }) means.after
-        ∙ ap (λ (t : Movetext). record (game_by w (record old { text = t; most_probes = max old.most_probes (pairs_meant e) })) { stage = InMovetext }) same in
+        let new : game_by begun_w begun_r ≡ record start { stage = InMovetext } = search rules in
         record {
           takes = takes_event w old judge k e means at (game_by begun_w begun_r) (Ok More) d 0
               (rw (none, new) (puts_number start (record start { stage = InMovetext }) d at begins)) tt
@@ -170,16 +134,7 @@ module _ {S : Type 0} (taken : S → Option (List ℕ)) (failures : S → ℕ) (
       whole = seen (is_nothing w.written) (device taken failures a c)
 
       next : IsAfterItem (record start { stage = InMovetext }) goes
-      next = record {
-        profile = ap (λ (r : GameState). r.profile) reader ∙ ap (λ (r : GameState). r.profile) stage ∙ ap (λ (r : GameState). r.profile) means.after;
-        writing = writing;
-        stage = ap (λ (r : GameState). r.stage) reader ∙ ap (λ (r : GameState). r.stage) stage;
-        tags = ap (λ (r : GameState). r.tags) reader ∙ ap (λ (r : GameState). r.tags) stage ∙ ap (λ (r : GameState). r.tags) means.after;
-        earlier =
-            ap (λ (r : GameState). r.earlier_plies) reader ∙ ap (λ (r : GameState). r.earlier_plies) stage
-            ∙ ap (λ (r : GameState). r.earlier_plies) means.after;
-        probes = omega (arith, most, rises);
-      }
+      next = search rules
 
       abbrev moved : Movetext
       moved = record judge.text { is_after_move = new_w.is_after_move }
@@ -188,29 +143,20 @@ module _ {S : Type 0} (taken : S → Option (List ℕ)) (failures : S → ℕ) (
       text_is = ap (λ (r : GameState). (game_by new_w r).text) (reader ∙ ap (λ (r : GameState). record r { most_probes = new.most_probes }) stage)
 
       silence : KeepsSilence game goes a c
-      silence = record {
-        silent = ap (λ (how : Writing). how.is_silent) writing;
-        untouched = λ silent. untouched silent ∙ call.silent.untouched silent;
-      }
+      silence = search rules
 
       pub item_taken : PutsTokens {A = Unit {0}} {E = Fault} (tokens_if writes game.text i) w.line new_w.line (Ok tt) second
           → new_w.is_after_move ≡ after_move_if writes game.text i
           → GameCall taken failures game goes a c (TakesEntry game k goes (Ok More))
       item_taken puts ends =
-          let on : Advances i (record game.text { is_after_move = after_move_if writes game.text i }) moved =
-          record { levels = advances.levels; plies = advances.plies; is_after_move = ends } in
+          let on : Advances i (record game.text { is_after_move = after_move_if writes game.text i }) moved = search rules in
           let adds : Adds {A = Unit {0}} {E = Fault} (mode_written game) i game.text w.line moved new_w.line (Ok tt) second =
           adds_put (mode_written game) i game.text w.line new_w.line second moved puts on in
           let put : PutResult start (IsOpen start) (to_items (i ∷ [])) goes (Ok More) whole =
           puts_item start (record start { stage = InMovetext }) goes i (taken a) (taken b) (taken c) _ _ _ at begins next
           (λ is. omega (arith, probed is))
           (subst (λ (t : Movetext). Adds {A = Unit {0}} {E = Fault} (mode_written game) i game.text w.line t new_w.line (Ok tt) second) (sym text_is) adds) in
-          record {
-            takes = takes_event w old judge k e means at goes (Ok More) whole more
-                (subst (λ (items : List Item). PutResult start (IsOpen start) (to_items items) goes (Ok More) whole) (sym one) put) tt most
-                (λ part is. rw one (tries part is));
-            silent = silence;
-          }
+          search (rules, takes_event, to_items, silence)
 
       pub item_fails : (f : Fault) → PutsTokens {A = Unit {0}} (tokens_if writes game.text i) w.line new_w.line (Err f) second
           → GameCall taken failures game goes a c (TakesEntry game k goes (Err WriteFault))
@@ -218,8 +164,7 @@ module _ {S : Type 0} (taken : S → Option (List ℕ)) (failures : S → ℕ) (
           let adds : Adds {A = Unit {0}} {E = Fault} (mode_written game) i game.text w.line moved new_w.line (Err f) second =
           adds_front (mode_written game) i game.text w.line new_w.line second moved f (Err f) puts (few_more e old.text judge.text means.text) refl in
           let put : PutResult start (IsOpen start) (to_items (i ∷ [])) goes (Err WriteFault) whole =
-          fails_item start (record start { stage = InMovetext }) goes i (taken a) (taken b) (taken c) _ _ _ at begins next f
-          (subst (λ (t : Movetext). Adds {A = Unit {0}} {E = Fault} (mode_written game) i game.text w.line t new_w.line (Err f) second) (sym text_is) adds) in
+          search (rules, fails_item, begins, next, text_is) in
           record {
             takes = takes_event w old judge k e means at goes (Err WriteFault) whole more
                 (subst (λ (items : List Item). PutResult start (IsOpen start) (to_items items) goes (Err WriteFault) whole) (sym one) put) tt most
@@ -254,17 +199,10 @@ module _ {S : Type 0} (taken : S → Option (List ℕ)) (failures : S → ℕ) (
 
           tokens_put : PutsTokens (tokens_if (is_written (mode_written game) (length old.text.levels.around) is.item) game.text is.item) w.line new_w.line r
               (seen (is_nothing w.written) (device taken failures b c))
-          tokens_put =
-              subst (λ (ts : List (List ℕ)). PutsTokens ts w.line new_w.line r (seen (is_nothing w.written) (device taken failures b c)))
-              (ap (λ (by : Option Mode). token_if (writes_annotations by) t) mode
-              ∙ annotation_tokens (mode_written game) is.item t game.text is.plain (is.written _ _) (length old.text.levels.around))
-              as_before.writes.puts
+          tokens_put = search (rules, annotation_tokens)
 
           flag_after : new_w.is_after_move ≡ after_move_if (is_written (mode_written game) (length old.text.levels.around) is.item) game.text is.item
-          flag_after =
-              ap (λ (x : Writer). x.is_after_move) as_before.writes.writer
-              ∙ ap (λ (by : Option Mode). not (writes_annotations by) && after_move_at old.stage w.is_after_move) mode
-              ∙ annotation_ends (mode_written game) is.item t game.text is.plain (is.written _ _) (length old.text.levels.around)
+          flag_after = search (rules, annotation_ends)
 
           same_writing : writing_of new_w ≡ writing_of w
           same_writing = ap writing_of as_before.writes.writer

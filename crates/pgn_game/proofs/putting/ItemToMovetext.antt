@@ -1,11 +1,11 @@
 -- What an item adds to the movetext that is held.
-use Rattle.pgn_game.proofs.Words.{◌≡◌, ℕ, ◌+◌, ◌<◌, ◌≤◌, Bool, true, false, List, [], ◌∷◌, ◌++◌, map, length, Option, None, Some, refl, sym, ap, subst, ◌∙◌, append_assoc, append-nil, arith, All, ◌==◌, Result, Ok, Err, IsErr, Appends, All-nil, All-cons, All-head, All-tail, length-map, drop-append_seam, Move, legal, Device, IsToken, lines_of, full_lines, last_line, text_of as text_of_lines, Put, laid_from, text_put, line_put, Parts, Mode, play, text_of_move, Item, open_variation, close_variation, Level as ModelLevel, Levels as ModelLevels, levels_after, levels_of, depth, here, outermost, main_moves, Placed, is_move, tokens_out, StoredLevels, Movetext, level_at, ClosesLevel, before_last, stored_level, stored_levels, ends_in_move, HoldsItems, HoldsLineOf, is_nothing, mode_of_written, IsSomeAnd, Event, LeadsLevels, items_meant, not, ◌&&◌, token_if, tokens_at, writes_annotations, PutsTokens, Annotates, Plays, is_written, tokens_if, after_move_if, plies_in, item_text, Adds, rules, san, MarkPairs, disambiguation_pairs, Written, common_steps}
+use Rattle.pgn_game.proofs.Words.{◌≡◌, ℕ, ◌+◌, ◌<◌, ◌≤◌, Bool, true, false, List, [], ◌∷◌, ◌++◌, map, length, Option, None, Some, refl, sym, ap, subst, ◌∙◌, append_assoc, append-nil, arith, All, ◌==◌, Result, Ok, Err, IsErr, Appends, All-nil, All-cons, All-head, All-tail, length-map, drop-append_seam, Move, legal, Device, IsToken, lines_of, full_lines, last_line, text_of as text_of_lines, Put, laid_from, text_put, line_put, Parts, Mode, play, text_of_move, Item, open_variation, close_variation, Level as ModelLevel, Levels as ModelLevels, levels_after, levels_of, depth, here, outermost, main_moves, Placed, is_move, tokens_out, StoredLevels, Movetext, level_at, ClosesLevel, stored_level, stored_levels, ends_in_move, HoldsItems, HoldsLineOf, is_nothing, mode_of_written, IsSomeAnd, Event, LeadsLevels, items_meant, not, ◌&&◌, token_if, tokens_at, writes_annotations, PutsTokens, Annotates, Plays, is_written, tokens_if, after_move_if, plies_in, item_text, Adds, rules, san, MarkPairs, disambiguation_pairs, Written, common_steps}
 use Rattle.std.proofs.lemmas.List.Elements.{All-append}
 use Rattle.std.proofs.Math.Dec.{eqb-suc-zero}
 use Rattle.pgn_layout.specs.declared.sink.WriteFault.{WriteFault}
 use Rattle.pgn_game.specs.games.Game.{move}
 use Rattle.pgn_game.proofs.reading.MovetextTokens.{levels_more}
-use Rattle.pgn_game.proofs.putting.WritesInTurn.{front_of_more, Writes-append}
+use Rattle.pgn_layout.proofs.OneWriteMore.{front_of_more, Writes-append}
 use Rattle.pgn_game.proofs.putting.ItemsAppended.{written_from_start, written_behind, written_more, tokens_behind, tokens_more, full_lines_put, last_line_put}
 
 -- Tokens put in turn: what goes out, and the line that is held.
@@ -84,8 +84,7 @@ module _ (start : Parts) where
   closed : (current : ModelLevel) (around : List ModelLevel) (new : StoredLevels) → 0 < length (map (stored_level start) around)
       → ClosesLevel (map (stored_level start) around) new
       → new ≡ stored_levels start (levels_after (record { current = current; around = around }) close_variation)
-  closed current [] new some h = absurd (omega arith)
-  closed current (l ∷ around) new some h = h
+  closed current around new some h = search rules
 
 -- a legal move leads to the position after it
 played_is : (p : Parts) (m : Move) (next : Parts) → legal p m ≡ Some next → next ≡ play p m
@@ -119,14 +118,7 @@ pub record AddsOne (e : Event) (i : Item) : Type 0 where
 by_open : (start : Parts) (ls : ModelLevels) (old new : StoredLevels)
     → IsSomeAnd old.current.before (λ s. new ≡ record { current = level_at s; around = old.current ∷ old.around })
     → old ≡ stored_levels start ls → new ≡ stored_levels start (levels_after ls open_variation)
-by_open start ls old new h same = opens ls.current.trail ls.current.has_own_move ls.around (rw same at h)
-  where
-    opens : (trail : List Move) (holds : Bool) (around : List ModelLevel)
-        → IsSomeAnd (before_last start (record { trail = trail; has_own_move = holds }))
-        (λ s. new ≡ record { current = level_at s; around = stored_level start (record { trail = trail; has_own_move = holds }) ∷ map (stored_level start) around })
-        → new ≡ stored_levels start (levels_after (record { current = record { trail = trail; has_own_move = holds }; around = around }) open_variation)
-    opens trail true around h = h
-    opens trail false around h = absurd h
+by_open start ls old new h same = search rules
 
 by_close : (start : Parts) (ls : ModelLevels) (old new : StoredLevels) → 0 < length old.around → ClosesLevel old.around new
     → old ≡ stored_levels start ls → new ≡ stored_levels start (levels_after ls close_variation)
@@ -138,16 +130,10 @@ stays : (e : Event) (i : Item) (start : Parts) (ls : ModelLevels) (old new : Sto
 stays e i start ls old new adds on same = search (rules, by_open, by_close)
 
 pub goes_on : (e : Event) (i : Item) (text new : Movetext) → AddsOne e i → Annotates e text new → Advances i text new
-goes_on e i text new adds on = record {
-  levels = λ start ls same. stays e i start ls text.levels new.levels adds on.levels same;
-  plies = rw (adds.plain, plies_in) (omega (arith, on.plies));
-  is_after_move = on.is_after_move;
-}
+goes_on e i text new adds on = search (rules, stays)
 
 one_at_most : (moved main : Bool) → elim moved [ true ↦ elim main [ true ↦ 1 | false ↦ 0 ] | false ↦ 0 ] ≤ 1
-one_at_most true true = omega arith
-one_at_most true false = omega arith
-one_at_most false main = omega arith
+one_at_most moved main = search rules
 
 -- An item's tokens were put where it is written, and the movetext went on with it.
 module _ (mode : Option Mode) (i : Item) (text : Movetext) (line new_line : List ℕ) (d : Device) where
@@ -166,8 +152,7 @@ module _ (mode : Option Mode) (i : Item) (text : Movetext) (line new_line : List
 
   item_text_is : (by : Option Mode) (start : Parts) (items : List Item) → HoldsItems by start items text line → All IsToken (us by)
       → (laid_from line (map Put (us by))).written ≡ item_text by start items i
-  item_text_is None start items holds each = refl
-  item_text_is (Some m) start items holds each = grind (arith, drop-append_seam, full_lines_laid, tokens_then)
+  item_text_is by start items holds each = search (rules, drop-append_seam, full_lines_laid, tokens_then)
 
   line_then : (by : Option Mode) (start : Parts) (items : List Item) (new : Movetext) → HoldsItems by start items text line → All IsToken (us by)
       → new_line ≡ (laid_from line (map Put (us by))).line → Advances i (between by) new
@@ -244,13 +229,7 @@ pub puts_after : {A B E : Type 0} (xs ys : List (List ℕ)) (line between new_li
     → PutsTokens {A = A} {E = E} xs line between (Ok x) (from_to a b n m) → PutsTokens ys between new_line result (from_to b c m k)
     → PutsTokens (xs ++ ys) line new_line result (from_to a c n k)
 puts_after xs ys line between new_line x result a b c n m k first more =
-    let held = first.held in
-    let next = (rw held at more) in record {
-      text = (rw (laid-written line xs ys) (Writes-append a b c _ _ result first.text next.text));
-      held = (rw (laid-line line xs ys) next.held);
-      each = All-append IsToken xs ys first.each more.each;
-      counted = (rw first.counted at more.counted);
-    }
+    grind (arith, common_steps, laid-written, Writes-append, laid-line, All-append)
 
 -- so where a write failed before the last tokens
 pub puts_fail : {A B E F : Type 0} (xs ys : List (List ℕ)) (line new_line then_line : List ℕ)

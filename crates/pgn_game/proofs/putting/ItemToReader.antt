@@ -1,8 +1,8 @@
 -- What putting a token of movetext adds to what stands written of its game, and to the reader.
-use Rattle.pgn_game.proofs.Words.{◌≡◌, ℕ, ◌+◌, ◌<◌, ◌≤◌, true, false, List, [], ◌∷◌, ◌++◌, length, drop, Option, None, Result, refl, sym, ap, subst, ◌∙◌, append-nil, length-append, arith, IsTrue, Ok, Err, list_any-append, drop-append-add, drop-length, Appends-trans, Appends, AppendsFront, Device, one_more, Parts, Mode, Full, Reduced, Stage, Between, AfterTags, InMovetext, Pair, Item, Part, More, is_at, start_of, tag_section, is_move, full_text, torn_at, has_move, Next, going, HoldsItems, GameState, Agrees, bytes_seen, mode_unless, mode_written, item_text, Bool, Some, as_written, known_of, plies_of_finished_games, IsOpen, may_have_movetext, with_items, Adds, BeginsText, Goes, Keeps, PutResult, gain_to, section_due, section_due_of, rules, common_steps}
+use Rattle.pgn_game.proofs.Words.{◌≡◌, ℕ, ◌+◌, ◌<◌, ◌≤◌, true, false, List, [], ◌∷◌, ◌++◌, length, drop, Option, None, Result, refl, sym, ap, subst, ◌∙◌, append-nil, length-append, arith, IsTrue, Ok, Err, list_any-append, drop-append-add, drop-length, Appends-trans, Appends, AppendsFront, Device, one_more, Parts, Mode, Stage, Between, AfterTags, InMovetext, Pair, Item, Part, More, is_at, start_of, tag_section, is_move, full_text, torn_at, has_move, Next, going, HoldsItems, GameState, Agrees, bytes_seen, mode_unless, mode_written, item_text, Bool, Some, as_written, known_of, plies_of_finished_games, IsOpen, may_have_movetext, with_items, Adds, BeginsText, Goes, Keeps, PutResult, gain_to, section_due, section_due_of, rules, common_steps}
 use Rattle.pgn_layout.specs.declared.sink.WriteFault.{WriteFault}
 use Rattle.pgn_game.specs.declared.reason.Reason.TheVariants as reasons
-use Rattle.pgn_game.proofs.putting.WritesInTurn.{front_after}
+use Rattle.pgn_layout.proofs.OneWriteMore.{front_after}
 use Rattle.pgn_game.proofs.putting.ItemToMovetext.{from_to}
 
 -- what is written of the lines, besides what was
@@ -10,8 +10,7 @@ abbrev pub lines_gain : Mode → List Pair → List Item → List Item → List 
 lines_gain mode ps items more = drop (length (full_text mode (start_of ps) items)) (full_text mode (start_of ps) (items ++ more))
 
 no_text : (mode : Mode) (start : Parts) → full_text mode start [] ≡ []
-no_text Full start = refl
-no_text Reduced start = refl
+no_text mode start = search rules
 
 -- What the section and these lines add to what is written: the section, where it is due, and the
 -- lines without those of the items so far.
@@ -119,8 +118,7 @@ appends_both : (silent : Bool) (mode : Mode) (x y z : Option (List ℕ)) (sectio
     → Appends (bytes_seen silent x) (bytes_seen silent y) section
     → Appends (bytes_seen silent y) (bytes_seen silent z) (item (mode_unless silent mode))
     → section ++ item (Some mode) ≡ gained → Appends (bytes_seen silent x) (bytes_seen silent z) gained
-appends_both true mode x y z section gained item first second is = tt
-appends_both false mode x y z section gained item first second is = subst (Appends x z) is (Appends-trans x y z _ _ first second)
+appends_both silent mode x y z section gained item first second is = search (rules, Appends-trans)
 
 front_of_both : (silent : Bool) (mode : Mode) (x y z : Option (List ℕ)) (section gained : List ℕ) (item : Option Mode → List ℕ) → item None ≡ []
     → Appends (bytes_seen silent x) (bytes_seen silent y) section

@@ -1,24 +1,9 @@
 -- Movetext of more items: its tokens, and the lines that are full.
-use Rattle.pgn_game.proofs.Words.{◌≡◌, ℕ, ◌<◌, Bool, true, false, List, [], ◌∷◌, ◌++◌, length, refl, sym, ap, ◌∙◌, append_assoc, append-nil, length-append, arith, All, fold, filter-append, All-nil, All-cons, All-head, All-tail, IsToken, has_room, lines_from, lines_of, full_lines, last_line, text_of as text_of_lines, Put, EndGame, ended, text_put, line_put, text_at, line_at, Parts, Mode, Full, Reduced, Item, Levels, levels_after, levels_of, first_level, Placed, placed_from, is_move, is_main_move, written_items, tokens_at, tokens_from, tokens_out, full_text, ends_in_move, IsPrefix}
+use Rattle.pgn_game.proofs.Words.{◌≡◌, ℕ, ◌<◌, Bool, true, false, List, [], ◌∷◌, ◌++◌, length, refl, ap, ◌∙◌, append_assoc, append-nil, length-append, arith, All, fold, filter-append, All-nil, All-cons, All-head, All-tail, IsToken, has_room, lines_from, lines_of, full_lines, last_line, text_of as text_of_lines, Put, EndGame, ended, text_put, line_put, text_at, line_at, Parts, Mode, Item, Levels, levels_after, levels_of, first_level, Placed, placed_from, is_move, written_items, tokens_at, tokens_from, tokens_out, full_text, ends_in_move, IsPrefix, rules}
 use Rattle.std.proofs.lemmas.List.Elements.{All-append}
+use Rattle.pgn_layout.proofs.PutsInTurn.{full_lines-cons, last_line-cons}
 
 -- Lines.
--- what holds of a line and more lines holds of the lines of tokens that go on from a line
-by_lines : (P : List (List ℕ) → Type 0) → ((l : List ℕ) (ls : List (List ℕ)) → P (l ∷ ls))
-    → (t : List ℕ) (ts : List (List ℕ)) → P (lines_from t ts)
-by_lines P h t [] = h t []
-by_lines P h t (u ∷ us) =
-    elim (has_room t u) as (λ v. P (elim v [ true ↦ lines_from (t ++ 32 ∷ u) us | false ↦ t ∷ lines_from u us ])) [
-      | true ↦ by_lines P h (t ++ 32 ∷ u) us
-      | false ↦ h t (lines_from u us)
-    ]
-
-full_lines-cons : (l t : List ℕ) (ts : List (List ℕ)) → full_lines (l ∷ lines_from t ts) ≡ l ∷ full_lines (lines_from t ts)
-full_lines-cons l = by_lines (λ ls. full_lines (l ∷ ls) ≡ l ∷ full_lines ls) (λ x xs. refl)
-
-last_line-cons : (l t : List ℕ) (ts : List (List ℕ)) → last_line (l ∷ lines_from t ts) ≡ last_line (lines_from t ts)
-last_line-cons l = by_lines (λ ls. last_line (l ∷ ls) ≡ last_line ls) (λ x xs. refl)
-
 full_lines-append : (xs : List (List ℕ)) (t : List ℕ) (ts : List (List ℕ))
     → full_lines (xs ++ lines_from t ts) ≡ xs ++ full_lines (lines_from t ts)
 full_lines-append [] t ts = refl
@@ -63,8 +48,7 @@ full_lines-front : (ls : List (List ℕ)) → IsPrefix (text_of_lines (full_line
 full_lines-front [] = ([], refl)
 full_lines-front (l ∷ []) = (text_of_lines (l ∷ []), refl)
 full_lines-front (l ∷ m ∷ ls) =
-    let rest = full_lines-front (m ∷ ls) in
-    (rest.0, (rw rest.1 (sym (append_assoc (l ++ 10 ∷ []) (text_of_lines _) rest.0))))
+    let rest = full_lines-front (m ∷ ls) in search (rules, append_assoc)
 
 -- Items.
 pub placed-append : (start : Parts) (ls : Levels) (xs ys : List Item)
@@ -73,8 +57,7 @@ placed-append start ls [] ys = refl
 placed-append start ls (x ∷ xs) ys = cc (placed-append start (levels_after ls x) xs ys)
 
 written-append : (mode : Mode) (xs ys : List Placed) → written_items mode (xs ++ ys) ≡ written_items mode xs ++ written_items mode ys
-written-append Full xs ys = refl
-written-append Reduced xs ys = filter-append is_main_move xs ys
+written-append mode xs ys = search (rules, filter-append)
 
 pub tokens_from-append : (b : Bool) (xs ys : List Placed) → tokens_from b (xs ++ ys) ≡ tokens_from b xs ++ tokens_from (ends_in_move b xs) ys
 tokens_from-append b [] ys = refl

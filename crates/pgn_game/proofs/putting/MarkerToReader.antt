@@ -1,16 +1,12 @@
 -- What putting a marker comes to, and a token of movetext whose section cannot be written.
-use Rattle.pgn_game.proofs.Words.{◌≡◌, ℕ, List, [], ◌∷◌, ◌++◌, length, drop, Option, refl, ap, subst, ◌∙◌, append_assoc, arith, IsTrue, Ok, Err, All, lit<, lit≤, drop-append_seam, Appends-trans, Appends, AppendsFront, Device, one_more, IsToken, lines_of, full_lines, last_line, text_of as text_of_lines, Put, EndGame, text_at, line_at, Finished, Marker, WhiteWins, BlackWins, Draw, Unknown, marker_text, Mode, Between, AfterTags, InMovetext, Profile, counting, counts_as, Pair, Item, Part, Level as ModelLevel, Levels as ModelLevels, start_of, outermost, last_position, tag_section, tokens_out, full_text, torn_for, Next, whole, GameState, IsBehind, failures_seen, seen, Bool, true, false, as_written, IsOpen, game_of, may_have_movetext, BeginsText, PutResult, gain_to, section_due, section_due_of, common_steps}
+use Rattle.pgn_game.proofs.Words.{◌≡◌, ℕ, List, [], ◌∷◌, ◌++◌, length, Option, refl, ap, subst, ◌∙◌, append_assoc, arith, IsTrue, Ok, Err, All, lit<, lit≤, drop-append_seam, Appends-trans, Appends, AppendsFront, Device, one_more, IsToken, lines_of, last_line, Put, EndGame, text_at, line_at, Finished, Marker, marker_text, Mode, Between, AfterTags, InMovetext, Profile, counting, Pair, Item, Part, Level as ModelLevel, Levels as ModelLevels, start_of, outermost, last_position, tokens_out, Next, whole, GameState, IsBehind, failures_seen, seen, Bool, true, false, as_written, IsOpen, game_of, may_have_movetext, BeginsText, PutResult, gain_to, section_due, section_due_of, common_steps, rules}
 use Rattle.pgn_layout.specs.declared.sink.WriteFault.{WriteFault}
 use Rattle.pgn_game.specs.declared.reason.Reason.TheVariants as reasons
-use Rattle.pgn_game.proofs.putting.WritesInTurn.{front_of_more, front_after}
+use Rattle.pgn_layout.proofs.OneWriteMore.{front_of_more, front_after}
 use Rattle.pgn_game.proofs.putting.ItemToMovetext.{from_to}
 use Rattle.pgn_game.proofs.putting.ItemsAppended.{game_ends}
 use Rattle.pgn_game.proofs.putting.ItemToReader.{gain_at, keeps_begun, open_stage, plies_before, section_is, unwritten}
 use Rattle.pgn_game.proofs.refusals.RefusalsInMovetext.{depth_is, position_is}
-
--- the lines of a game whose items are these, and an empty line
-abbrev game_lines : Mode → List Pair → List Item → List ℕ → List ℕ
-game_lines mode ps items marker = text_of_lines (lines_of (tokens_out mode (start_of ps) items ++ marker ∷ [])) ++ 10 ∷ []
 
 -- what a marker and the end of the game write behind a line
 abbrev pub ending : List ℕ → List ℕ → List ℕ
@@ -24,17 +20,7 @@ gain_of : (p : Profile) (result : List ℕ) (part : Part) (marker : List ℕ)
     → All IsToken (tokens_out p.mode (start_of part.pairs) part.items) → IsToken marker
     → gain_to (counting p result) part (whole (game_of part marker))
     ≡ section_due part.stage p.mode result part.pairs ++ ending (last_line_of p.mode part.pairs part.items) marker
-gain_of p result part marker at fresh each token =
-    let lines = text_of_lines (lines_of (tokens_out p.mode (start_of part.pairs) part.items ++ marker ∷ [])) in
-    let ts = tokens_out p.mode (start_of part.pairs) part.items in
-    ap (drop (length (torn_for (counts_as result) p.mode part))) (append_assoc (tag_section p.mode result part.pairs) lines (10 ∷ []))
-    ∙ gain_at p.mode result part.stage part.pairs part.name part.items (game_lines p.mode part.pairs part.items marker) at fresh
-    ∙ ap (λ (l : List ℕ). section_due part.stage p.mode result part.pairs ++ l)
-    (ap (drop (length (full_text p.mode (start_of part.pairs) part.items)))
-    (game_ends ts marker each token
-    ∙ append_assoc (text_of_lines (full_lines (lines_of ts))) (text_at (last_line (lines_of ts)) (Put marker))
-    (text_at (line_at (last_line (lines_of ts)) (Put marker)) EndGame))
-    ∙ drop-append_seam (full_text p.mode (start_of part.pairs) part.items) (ending (last_line_of p.mode part.pairs part.items) marker))
+gain_of p result part marker at fresh each token = search (rules, append_assoc, gain_at, game_ends, drop-append_seam)
 
 -- what is due for a marker, of a reader that holds the part
 due_is : (old : GameState) (part : Part) (marker : List ℕ) → old.writing.is_silent ≡ false
@@ -58,21 +44,10 @@ finished_reader line marker r =
 
 behind : (old : GameState) (part : Part) (line marker : List ℕ) → line ≡ [] → old.text.levels.around ≡ []
     → IsOpen old part → IsBehind (finished_reader line marker old) (game_of part marker)
-behind old part line marker empty outside is =
-    record {
-      agrees = record { stage = refl; pairs = refl; text = empty };
-      pairs = ap (λ t. t.held) is.pairs;
-      plies = is.held.plies;
-      position = last_is old part outside is marker;
-      marker = refl;
-      probed = is.probed;
-    }
+behind old part line marker empty outside is = search (rules, last_is)
 
 pub marker_token : (marker : Marker) → IsToken (marker_text marker)
-marker_token WhiteWins = record { not_empty = lit< tt; fits = lit≤ tt }
-marker_token BlackWins = record { not_empty = lit< tt; fits = lit≤ tt }
-marker_token Draw = record { not_empty = lit< tt; fits = lit≤ tt }
-marker_token Unknown = record { not_empty = lit< tt; fits = lit≤ tt }
+marker_token marker = search (rules, lit<, lit≤)
 
 -- what a marker leads to
 abbrev pub to_game : Marker → Part → Next
@@ -80,8 +55,7 @@ to_game marker part = whole (game_of part (marker_text marker))
 
 -- a write fails for no silent reader
 pub writes_if_failed : (silent : Bool) (n m : ℕ) → failures_seen silent m ≡ one_more (failures_seen silent n) → silent ≡ false
-writes_if_failed true n m failed = absurd (omega (arith, failed))
-writes_if_failed false n m failed = refl
+writes_if_failed silent n m failed = search rules
 
 -- The section could not be written.
 pub ends_unbegun : (old new : GameState) (marker : Marker) (f : WriteFault) (d : Device) → old.writing.is_silent ≡ false
@@ -144,8 +118,7 @@ module _ (old begun new : GameState) (marker : Marker) where
       (record {
         profile = ap (λ (r : GameState). r.profile) rest ∙ begins.profile;
         writing = ap (λ (r : GameState). r.writing) rest ∙ begins.writing;
-        plies =
-            omega (arith, ap (λ (r : GameState). r.earlier_plies) rest, ap (λ (r : GameState). r.text.plies) rest, begins.earlier, begins.plies);
+        plies = search rules;
         probes = omega (arith, ap (λ (r : GameState). r.most_probes) rest, begins.probes);
       })
       (counted ∙ ap one_more begins.counted) (λ part is.

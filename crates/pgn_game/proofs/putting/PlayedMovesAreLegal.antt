@@ -1,5 +1,5 @@
 -- Each move that is read is legal where it stands.
-use Rattle.pgn_game.proofs.Words.{◌≡◌, ℕ, Bool, List, [], ◌∷◌, ◌++◌, Option, None, Some, Result, Ok, refl, ap, ◌⊎◌, IsTrue, option_map, is_some, list_all, and_from, list_all-append, legal, TheOneMoveIsRead, Parts, Played, SanFault, Kind, Token, Stage, InMovetext, Profile, Pair, Item, Game, Part, move_of, Levels, here, levels_of, start_of, levels_of_part, placed_from, Next, going, whole, next, next_in, in_text, move_item, items_of, Progress, progress_with, progress_after, no_progress, read_from, Form, move_of_form, arith, rules, is_legal_at, plays_legally, MovesAreLegal}
+use Rattle.pgn_game.proofs.Words.{◌≡◌, ℕ, Bool, List, [], ◌∷◌, ◌++◌, Option, None, Some, Result, Ok, refl, ◌⊎◌, IsTrue, option_map, list_all, and_from, list_all-append, legal, TheOneMoveIsRead, Parts, Played, SanFault, Kind, Token, Stage, InMovetext, Profile, Pair, Item, Game, Part, move_of, Levels, here, levels_of, start_of, levels_of_part, placed_from, Next, going, whole, next, next_in, in_text, move_item, items_of, Progress, progress_with, progress_after, no_progress, read_from, Form, move_of_form, arith, rules, is_legal_at, plays_legally, MovesAreLegal}
 use Rattle.pgn_game.proofs.stepping.OneMoreToken.{by_token}
 use Rattle.pgn_game.proofs.putting.ItemsAppended.{placed-append}
 
@@ -13,8 +13,7 @@ HoldsNone InMovetext items = Unit {0}
 HoldsNone _ items = items ≡ []
 
 pub none_held : (stage : Stage) (items : List Item) → items ≡ [] → HoldsNone stage items
-none_held InMovetext items e = tt
-none_held _ items e = e
+none_held stage items e = search rules
 
 nothing_to_play : (pairs : List Pair) (items : List Item) → items ≡ [] → IsTrue (plays_legally pairs items)
 nothing_to_play pairs items e = rw e refl
@@ -54,8 +53,7 @@ module _ (one_read : TheOneMoveIsRead) where
 
   item_legal : (start : Parts) (ls : Levels) (s : List ℕ) (o : Option (Result Played SanFault))
       → move_of (here start ls) s ≡ o → IsTrue (go_on_legally start ls (move_item o))
-  item_legal start ls s (Some (Ok x)) e = and_from _ _ (ap is_some (named_is_legal (here start ls) s x e)) refl
-  item_legal start ls s _ e = refl
+  item_legal start ls s o e = search (rules, and_from, named_is_legal)
 
   items_legal : (part : Part) (k : Kind) → IsTrue (go_on_legally (start_of part.pairs) (levels_of_part part) (items_of part k))
   items_legal part k = grind (arith, item_legal)
@@ -81,5 +79,4 @@ module _ (one_read : TheOneMoveIsRead) where
 
   pub moves_legal : MovesAreLegal
   moves_legal p ts =
-      let all = read_legal p no_progress ts (refl, (refl, refl)) in
-      (all.0, all.1.1)
+      let all = read_legal p no_progress ts (refl, (refl, refl)) in search rules

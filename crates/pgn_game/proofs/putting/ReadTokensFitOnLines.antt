@@ -1,7 +1,7 @@
 -- Each token that is written of a game that is read fits on a line, so its movetext is on the lines
 -- that its tokens have.
 use Rattle.std.proofs.ByRecursion.{All-append as all_joined}
-use Rattle.pgn_game.proofs.Words.{◌≡◌, ℕ, ◌<◌, ◌≤◌, Bool, true, false, List, [], ◌∷◌, ◌++◌, length, Option, None, Some, refl, arith, is_some, IsTrue, and_parts, false≢true, filter, list_all, unwrap_or, codes, All, All-nil, All-cons, AllByRecursion, Move, Parts, is_position, legal, is_legal, LeavesPosition, WrittenMoveIsSymbol, ReadingIsSpelling, IsToken, lines_of, Kind, Token, IsSoundKind, Mode, Full, Reduced, Profile, Pair, Item, Game, Part, Levels, levels_after, depth, start_of, Placed, placed_from, is_main_move, written_items, number_before, tokens_at, tokens_from, tokens_out, is_black_to_move, text_of_move, play, marker_of, Next, going, whole, next, in_text, items_of, Progress, progress_with, progress_after, no_progress, read_from, tokens_of, replayed, begins_with_letter, TokensDetermineLines, TokensAreSound, IsWord, is_legal_at, plays_legally, MovesAreLegal, common_steps}
+use Rattle.pgn_game.proofs.Words.{◌≡◌, ℕ, ◌<◌, ◌≤◌, Bool, List, [], ◌∷◌, ◌++◌, length, Option, Some, refl, arith, is_some, IsTrue, and_parts, false≢true, filter, list_all, unwrap_or, All, All-nil, All-cons, AllByRecursion, Move, Parts, is_position, legal, is_legal, LeavesPosition, WrittenMoveIsSymbol, ReadingIsSpelling, IsToken, lines_of, Kind, Token, IsSoundKind, Mode, Profile, Pair, Item, Game, Part, Levels, levels_after, depth, start_of, Placed, placed_from, is_main_move, written_items, number_before, tokens_at, tokens_from, tokens_out, text_of_move, play, marker_of, Next, going, whole, next, in_text, items_of, Progress, progress_with, progress_after, no_progress, read_from, tokens_of, replayed, begins_with_letter, TokensDetermineLines, TokensAreSound, IsWord, is_legal_at, plays_legally, MovesAreLegal, common_steps, rules}
 use Rattle.std.proofs.lemmas.List.Elements.{All-append}
 use Rattle.pgn_game.specs.games.Game as games
 use Rattle.pgn_game.specs.laws.MovetextLines.{AreOnLines, GameIsOnLines, MovetextIsOnLines}
@@ -27,13 +27,10 @@ short_token : (t : List ℕ) → 0 < length t → length t ≤ 7 → All IsToken
 short_token t some short = one_token t (record { not_empty = some; fits = omega arith })
 
 number_fits : (b is_black : Bool) (n : ℕ) → n ≤ 99999 → All IsToken (number_before b is_black n)
-number_fits b false n few = one_token _ (number_token n (codes ".") (omega arith) (omega arith))
-number_fits false true n few = one_token _ (number_token n (codes "...") (omega arith) (omega arith))
-number_fits true true n few = All-nil IsToken
+number_fits b is_black n few = search (rules, one_token, number_token, All-nil)
 
 not_empty : (s : List ℕ) → IsTrue (begins_with_letter s) → 0 < length s
-not_empty [] e = absurd (false≢true e)
-not_empty (c ∷ s) e = omega arith
+not_empty s e = search (rules, false≢true)
 
 -- all positions of these levels are positions
 abbrev LeadThroughPositions : Parts → Levels → Type 0
@@ -48,8 +45,7 @@ filtered [] fit = tt
 filtered (i ∷ is) fit = grind (arith, filtered is fit.1)
 
 written_fit : (mode : Mode) (is : List Placed) → AllByRecursion FitsOnLines is → AllByRecursion FitsOnLines (written_items mode is)
-written_fit Full is fit = fit
-written_fit Reduced is fit = filtered is fit
+written_fit mode is fit = search (rules, filtered)
 
 joined : (b : Bool) (is : List Placed) → AllByRecursion FitsOnLines is → All IsToken (tokens_from b is)
 joined b [] fit = All-nil IsToken
@@ -71,8 +67,7 @@ no_items : (items : List Item) → items ≡ [] → AllByRecursion IsSoundItem i
 no_items items e = rw e tt
 
 leads_none : (nx : Next) → AddsNone nx → LeadsSoundly nx
-leads_none (going part) none = (none_held part.stage part.items none, no_items part.items none)
-leads_none (whole g) none = absurd none
+leads_none nx none = search (rules, none_held, no_items)
 
 items_sound : (part : Part) (k : Kind) → IsSoundKind k → AllByRecursion IsSoundItem (items_of part k)
 items_sound part k sound = grind arith
@@ -90,8 +85,7 @@ abbrev IsSoundProgress : Progress → Type 0
 IsSoundProgress b = AllByRecursion IsSoundGame b.games × IsSoundPart b.part
 
 with_sound : (gs : List Game) (nx : Next) → AllByRecursion IsSoundGame gs → LeadsSoundly nx → IsSoundProgress (progress_with gs nx)
-with_sound gs (going part) h k = (h, k)
-with_sound gs (whole g) h k = (all_joined IsSoundGame gs (g ∷ []) h (k, tt), (refl, tt))
+with_sound gs nx h k = search (rules, all_joined)
 
 read_sound : (p : Profile) (b : Progress) (ts : List Token) → AllByRecursion (λ t. IsSoundKind t.kind) ts → IsSoundProgress b
     → IsSoundProgress (read_from p b ts).progress
@@ -106,35 +100,22 @@ module _ (leaves : LeavesPosition) (is_symbol : WrittenMoveIsSymbol) (reads_fen 
       → All IsToken (tokens_at b at (games.move m))
   unfolding text_of_move
   move_fits b at m position may =
-      let symbol = is_symbol at m may in
-      All-append IsToken (number_before b (is_black_to_move at) at.full) _
-      (number_fits b (is_black_to_move at) at.full (full_fits at position))
-      (short_token (text_of_move at m) (not_empty _ symbol.begins) symbol.fits)
+      let symbol = is_symbol at m may in search (rules, All-append, number_fits, full_fits, short_token, not_empty)
 
   item_fits : (at : Parts) (deep : ℕ) (i : Item) → IsTrue (is_position at) → IsSoundItem i → IsTrue (is_legal_at at i)
       → FitsOnLines (record { position = at; depth = deep; item = i })
-  item_fits at deep (games.move m) position sound may b = move_fits b at m position may
-  item_fits at deep (games.glyph n) position sound may b = one_token _ (glyph_token n (omega arith))
-  item_fits at deep (games.word text) position sound may b =
-      one_token text (record { not_empty = sound.some; fits = sound.fits })
-  item_fits at deep _ position sound may b = short_token _ (omega arith) (omega arith)
+  item_fits at deep i position sound may b = search (rules, move_fits, one_token, glyph_token, not_empty, short_token)
 
   plays_on : (at : Parts) (m : Move) → IsTrue (is_position at) → IsTrue (is_legal at m) → IsTrue (is_position (play at m))
   unfolding play
   plays_on at m position may = by_answer (legal at m) refl may
     where
       by_answer : (o : Option Parts) → legal at m ≡ o → IsTrue (is_some o) → IsTrue (is_position (unwrap_or o at))
-      by_answer None e is = absurd (false≢true is)
-      by_answer (Some q) e is = leaves at q m position e
+      by_answer o e is = search (rules, false≢true)
 
   levels_go_on : (start : Parts) (ls : Levels) (i : Item) → LeadThroughPositions start ls
       → IsTrue (is_legal_at (replayed start ls.current.trail) i) → LeadThroughPositions start (levels_after ls i)
-  levels_go_on start ls (games.move m) good may =
-      ((plays_on _ m (last_position start ls.current.trail good.0) may, good.0), good.1)
-  levels_go_on start ls games.open_variation good may =
-      (earlier_positions start ls.current.trail good.0, (good.0, good.1))
-  levels_go_on start ls games.close_variation good may = grind (arith, common_steps)
-  levels_go_on start ls _ good may = good
+  levels_go_on start ls i good may = search (rules, plays_on, last_position, earlier_positions)
 
   placed_fit : (start : Parts) (ls : Levels) (items : List Item) → LeadThroughPositions start ls → AllByRecursion IsSoundItem items
       → IsTrue (list_all (λ i. is_legal_at i.position i.item) (placed_from start ls items))
@@ -160,10 +141,7 @@ module _ (leaves : LeavesPosition) (is_symbol : WrittenMoveIsSymbol) (reads_fen 
       let both = and_parts (plays_legally g.pairs g.items) _ may in (
         record {
           lines = lines_of (tokens_out p.mode (start_of g.pairs) g.items ++ g.marker ∷ []);
-          on =
-              on_lines _
-              (All-append IsToken (tokens_out p.mode (start_of g.pairs) g.items) _
-              (tokens_fit p.mode g.pairs g.items sound.0.items both.0) (one_token g.marker sound.0.marker));
+          on = search (rules, on_lines, All-append, tokens_fit, one_token);
           text = refl;
         },
         games_on_lines p gs sound.1 both.1,

@@ -1,5 +1,5 @@
 -- What calls in turn do to the sink of a silent reader.
-use Rattle.pgn_game.proofs.Words.{Converter, IsGoing, writing_nothing, None, CountsFault, CountsReason, NoWriteFails, Fault, Reason, Ok, Err, Device, Result, seen, ◌≡◌, Bool, true, false, IsTrue, refl, ap, subst, ◌∙◌, arith, GameState, Writing, KeepsSilence, is_nothing, Written, common_steps}
+use Rattle.pgn_game.proofs.Words.{Converter, IsGoing, writing_nothing, None, CountsFault, NoWriteFails, Fault, Device, Result, seen, ◌≡◌, Bool, false, IsTrue, refl, ap, subst, arith, GameState, Writing, KeepsSilence, is_nothing, Written, common_steps, rules}
 use Rattle.pgn_game.specs.declared.mode.Written.TheVariants.{Nothing}
 
 -- a call that leaves how the reader writes
@@ -21,26 +21,20 @@ writes_some w some = grind arith
 
 -- Of a reader that writes, contracts see the sink as it is.
 pub seen_if : (P : Device → Type 0) (silent : Bool) (d : Device) → silent ≡ false → P d → P (seen silent d)
-seen_if P true d writes h = absurd (cc)
-seen_if P false d writes h = h
+seen_if P silent d writes h = search rules
 
 -- a converter that can convert still can if it writes nothing from now on
 pub ready_silently : (old : Converter) {new : Converter} → new ≡ writing_nothing old → old.is_finished ≡ false → old.fault ≡ None
     → IsGoing new
-ready_silently old switched not_finished no_fault =
-    record { no_fault = ap (λ (c : Converter). c.fault) switched ∙ no_fault; not_finished = ap (λ (c : Converter). c.is_finished) switched ∙ not_finished }
+ready_silently old switched not_finished no_fault = search rules
 
 -- two readers that are both silent, or not, see the same of a sink
 pub seen_alike : (P : Device → Type 0) (p q : Bool) (d : Device) → p ≡ q → P (seen p d) → P (seen q d)
 seen_alike P p q d same h = subst (λ (b : Bool). P (seen b d)) same h
 
 pub unseen : (P : Device → Type 0) (silent : Bool) (d : Device) → silent ≡ false → P (seen silent d) → P d
-unseen P true d writes h = absurd (cc)
-unseen P false d writes h = h
+unseen P silent d writes h = search rules
 
 -- the count of what a silent reader sees does not rise, so no write failed
 pub none_fails : {A : Type 0} (silent : Bool) (r : Result A Fault) (d : Device) → IsTrue silent → CountsFault r (seen silent d) → NoWriteFails r
-none_fails false r d is counted = absurd (cc)
-none_fails true (Ok x) d is counted = tt
-none_fails true (Err f) d is counted = λ failed.
-    let rises = subst (λ (reason : Reason). CountsReason reason 0 0) failed counted in absurd (omega (arith, rises))
+none_fails silent r d is counted = search rules

@@ -1,5 +1,5 @@
 -- What a reader makes of a token, for the games of all writers beside it.
-use Rattle.pgn_game.proofs.Words.{◌≡◌, ℕ, max, Bool, false, List, [], ◌∷◌, Option, None, Some, Result, Ok, Err, IsFalse, IsTrue, refl, sym, ap, ◌∙◌, arith, Move, Parts, Played, Kind, Reason, Stage, Part, Accepted, symbol, legal, going, in_text, is_number, is_score, marker_of, move_of, found_in, ok_or, with_next, IllegalMove, CostsToFind, Event, Finds, IsOpen, IsOutside, JudgesBefore, JudgesInPair, JudgesOutside, Means, MovesText, Movetext, GameState, Refuses, Writer, IsWritable, after_move_at, game_at, game_by, is_begun, is_outside_the_table, items_meant, may_have_movetext, movetext_after_fen, pairs_meant, text_refusal, with_items, Plays}
+use Rattle.pgn_game.proofs.Words.{◌≡◌, ℕ, max, Bool, false, List, [], ◌∷◌, Option, None, Some, Result, Ok, Err, IsFalse, IsTrue, sym, ap, arith, Move, Parts, Kind, Reason, Stage, Part, Accepted, symbol, going, in_text, is_number, is_score, marker_of, CostsToFind, Event, Finds, IsOpen, IsOutside, JudgesBefore, JudgesInPair, JudgesOutside, Means, MovesText, Movetext, GameState, Refuses, Writer, IsWritable, after_move_at, game_at, game_by, is_begun, is_outside_the_table, items_meant, may_have_movetext, movetext_after_fen, pairs_meant, text_refusal, with_items, Plays, rules}
 use Rattle.pgn_game.specs.declared.event.Event.TheVariants as events
 use Rattle.pgn_game.specs.games.Game.{move}
 use Rattle.pgn_game.proofs.refusals.RefusalsInMovetext.{move_free, move_leads}
@@ -29,53 +29,34 @@ module _ {old new : GameState} {k : Kind} where
   }
     where
       outside : (r : Option (Result Accepted Reason)) → IsOutside old.stage new.stage r
-      outside None = tt
-      outside (Some answer) = (at, judged.before)
+      outside r = search rules
 
 -- the movetext of a FEN has no move
 pub fen_alike : (start : Option Parts) (text : Movetext)
     → record (movetext_after_fen start text) { is_after_move = false } ≡ movetext_after_fen start (record text { is_after_move = false })
-fen_alike None text = refl
-fen_alike (Some start) text = refl
+fen_alike start text = search rules
 
 -- In movetext.
 
 pub none_tried : (old : GameState) (text : Movetext)
     → record old { text = text } ≡ record old { text = text; most_probes = max old.most_probes 0 }
-none_tried old text =
-    let same : old.most_probes ≡ max old.most_probes 0 = omega arith in ap (λ (n : ℕ). record old { text = text; most_probes = n }) same
+none_tried old text = search rules
 
 pub entry_refuses : (old : GameState) (k : Kind) (reason : Reason) → marker_of k ≡ None → IsFalse (is_outside_the_table reason)
     → ((w : Writer) (part : Part) → IsOpen (game_by w old) part → text_refusal old.profile part k ≡ Some reason)
     → ((part : Part) → CostsToFind part k 0) → Refuses old k old reason
-entry_refuses old k reason none inside why costs =
-    record { no_marker = none; takes = λ w o m. entry_refused (game_by w old) k reason o m inside (why w) costs }
+entry_refuses old k reason none inside why costs = search (rules, entry_refused)
 
 -- a token that leaves the levels as they are
 pub entry_means : (old : GameState) (k : Kind) (e : Event) → marker_of k ≡ None
     → ((part : Part) → (text_refusal old.profile part k ≡ None) × (in_text part k ≡ going (with_items part (items_meant e))))
     → ((part : Part) → CostsToFind part k 0) → pairs_meant e ≡ 0 → MovesText e old.text old.text → IsWritable old.text e → Means old k old e
-entry_means old k e none says finds untried text fits = record {
-  no_marker = none;
-  says = λ w part is. says part;
-  finds = λ w part is. rw untried (finds part);
-  after = rw untried (none_tried old old.text);
-  text = text;
-  fits = fits;
-}
+entry_means old k e none says finds untried text fits = search (rules, none_tried)
 
 -- what was found for a symbol is found in the game of a writer
 finds_by : (w : Writer) {old new : GameState} {s : List ℕ} {r : Result Move Reason} {n : ℕ} → Finds old s new r n
     → Finds (game_by w old) s (game_by w new) r n
-finds_by w finds = record {
-  found = finds.found;
-  legal = finds.legal;
-  counted = ap (game_by w) finds.counted;
-  tried = finds.tried;
-  few = finds.few;
-  some = finds.some;
-  candidates = finds.candidates;
-}
+finds_by w finds = search rules
 
 module _ (old found : GameState) (s : List ℕ) (n : ℕ) (at : IsTrue (may_have_movetext old.stage))
     (number : is_number s ≡ false) (score : is_score s ≡ false) (none : marker_of (symbol s) ≡ None) where
@@ -87,21 +68,8 @@ module _ (old found : GameState) (s : List ℕ) (n : ℕ) (at : IsTrue (may_have
 
   move_says : (mv : Move) → Finds old s found (Ok mv) n → (w : Writer) (part : Part) → IsOpen (game_by w old) part
       → (text_refusal old.profile part (symbol s) ≡ None) × (in_text part (symbol s) ≡ going (with_items part (move mv ∷ [])))
-  move_says mv finds w part is =
-      let here = old.text.levels.current.position in
-      let (q, leads) = next_of (legal here mv) finds.legal in
-      let played : Played = record { mv = mv; next = q } in
-      let is_found : Ok played ≡ found_in here (move_of here s) =
-      sym (ap (λ (o : Option Parts). ok_or (with_next mv o) IllegalMove) leads) ∙ finds.found in
-      (move_free s here number score is refl is_found, move_leads s here number score is refl is_found)
+  move_says mv finds w part is = search (rules, next_of, move_free, move_leads)
 
   pub move_means : (new : GameState) (mv : Move) → Finds old s found (Ok mv) n → new ≡ record found { text = new.text }
       → Plays mv old.text new.text → Means old (symbol s) new (events.Move mv n)
-  move_means new mv finds moved text = record {
-    no_marker = none;
-    says = move_says mv finds;
-    finds = λ w part is. costs_found s n is at number score finds.tried;
-    after = moved ∙ ap (λ (r : GameState). record r { text = new.text }) finds.counted;
-    text = text;
-    fits = (finds.some, finds.few, finds.candidates);
-  }
+  move_means new mv finds moved text = search (rules, move_says, costs_found)

@@ -1,18 +1,6 @@
 -- Texts written in turn.
-use Rattle.pgn_game.proofs.Words.{◌≡◌, ℕ, ◌+◌, ◌<◌, List, [], ◌∷◌, ◌++◌, length, take, drop, get_or, Option, ap, sym, ◌∙◌, refl, add-one, append-nil, append_assoc, length-append, arith, Some, slice_get, Result, Ok, Err, take-suc, take-append-add, take-append-drop, take-append-le, slice_get_within, get_or_from_slice_get, Appends-trans, Appends, AppendsFront, Counts, Writes, text_by, rules}
-
--- a front of a text is one of a longer text
-pub front_of_more : (a b : Option (List ℕ)) (text more : List ℕ) → AppendsFront a b text → AppendsFront a b (text ++ more)
-front_of_more a b text more h4 = search (rules, length-append, take-append-le)
-
--- the whole of one text, and then a front of the next
-pub front_after : (a b c : Option (List ℕ)) (text more : List ℕ)
-    → Appends a b text → AppendsFront b c more → AppendsFront a c (text ++ more)
-front_after a b c text more done (n, within, front) = (
-  length text + n,
-  omega (arith, length-append text more),
-  rw (take-append-add text more n) (Appends-trans a b c _ _ done front),
-)
+use Rattle.pgn_game.proofs.Words.{◌≡◌, ℕ, ◌+◌, ◌<◌, List, [], ◌∷◌, ◌++◌, length, take, drop, get_or, Option, ap, sym, ◌∙◌, refl, add-one, append-nil, append_assoc, Some, slice_get, Result, take-suc, take-append-drop, slice_get_within, get_or_from_slice_get, Appends-trans, Appends, AppendsFront, Counts, text_by, rules}
+use Rattle.pgn_layout.proofs.OneWriteMore.{front_after, front_of_more}
 
 module _ {A : Type 0} (f : A → List ℕ) where
   text_by-append : (xs ys : List A) → text_by f (xs ++ ys) ≡ text_by f xs ++ text_by f ys
@@ -41,13 +29,6 @@ module _ {A : Type 0} (f : A → List ℕ) where
 pub within_at : {A : Type 0} (xs : List A) (i : ℕ) (x : A) → slice_get xs i ≡ Some x → (i < length xs) × (get_or xs i x ≡ x)
 within_at xs i x e = (slice_get_within xs i x e, get_or_from_slice_get xs i x x e)
 
--- one text, and then another
-pub Writes-append : {A E : Type 0} (a b c : Option (List ℕ)) (text more : List ℕ) (r : Result A E)
-    → Appends a b text → Writes b c r more → Writes a c r (text ++ more)
-Writes-append a b c text more (Ok x) done next = Appends-trans a b c _ _ done next
-Writes-append a b c text more (Err e) done next = front_after a b c text more done next
-
 -- a call that fails counts once, also behind calls that did not fail
 pub counts_behind : {A E : Type 0} (m n o : ℕ) (r : Result A E) → n ≡ m → Counts r n o → Counts r m o
-counts_behind m n o (Ok x) same counted = counted ∙ same
-counts_behind m n o (Err e) same counted = cc
+counts_behind m n o r same counted = search rules

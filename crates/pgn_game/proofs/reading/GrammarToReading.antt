@@ -28,8 +28,7 @@ name_passes : (p : Profile) (ps : List Pair) (name : List ℕ) (items : List Ite
 name_passes p ps name items new h = grind (arith, nat_tests, at, pass, name_refusal, name_fits)
 
 guarded : (a : Bool) {b : Bool} → (a ≡ true → b ≡ false) → (a && b) ≡ false
-guarded true h = h refl
-guarded false h = refl
+guarded a h = search rules
 
 value_passes : (p : Profile) (ps : List Pair) (items : List Item) {q : Pair} → IsPair p.mode q
     → refusal p (at AfterName ps q.name items) (tokens.str q.value) ≡ None
@@ -103,8 +102,7 @@ text_run {p} ps name (token _ _ k ks item items stands text) before all rest gs 
     (text_run ps name text _ all rest gs (stands_levels before stands ∙ at_level) at_depth
     (append_assoc before item items ∙ same) further)
 text_run {p} ps name {l} (move _ _ s played ks items names text) before all rest gs at_level at_depth same further =
-    let placed : replayed (start_of ps) l.trail ≡ here (start_of ps) (levels_of before) =
-    ap (λ (x : Levels). here (start_of ps) x) (sym at_level) in
+    let placed : replayed (start_of ps) l.trail ≡ here (start_of ps) (levels_of before) = search rules in
     let named : Names (here (start_of ps) (levels_of before)) s played = rw placed at names in
     goes _ _ _ _ gs (move_free p ps name before s played named) refl (move_leads p ps name before s played named)
     (text_run ps name text _ all rest gs (rw at_level at (levels_more before (games.move played.mv))) at_depth
@@ -152,9 +150,7 @@ marker_finishes p ps name items k {marker} is outside result =
     }
   where
     plain_marker : (k : Kind) (marker : List ℕ) → marker_of k ≡ Some marker → (is_lexical k ≡ false) × (is_end k ≡ false)
-    plain_marker tokens.asterisk marker is = (refl, refl)
-    plain_marker (tokens.symbol s) marker is = (refl, refl)
-    plain_marker _ marker is = absurd (cc)
+    plain_marker k marker is = search rules
 
 -- Games.
 -- tokens run from another part too where the first is let pass and leads as it does from this one
@@ -166,10 +162,7 @@ runs_alike p part other ks gs alike h6 = search (rules, ends, goes, finishes)
 module _ (p : Profile) (ps : List Pair) (name : List ℕ) (items : List Item) where
   textual : (k : Kind) → refusal p (in_movetext p ps name items) k ≡ None → IsTrue (is_textual k)
   unfolding refusal
-  textual tokens.left_bracket free = absurd (none-some _ (sym free))
-  textual tokens.end free = absurd (none-some _ (sym free))
-  textual (tokens.refused r) free = absurd (none-some _ (sym free))
-  textual _ free = refl
+  textual k free = search (rules, none-some)
 
   begins_after_tags : (ks : List Kind) (gs : List Game) → lacks_fen ps ≡ false
       → Runs p (at InMovetext ps name items) ks gs → Runs p (at AfterTags ps name items) ks gs
@@ -196,8 +189,7 @@ module _ (p : Profile) (ps : List Pair) (name : List ℕ) where
   whole_text_run rest {items} last {marker} gs spells is result runs =
       text_run ps name spells [] items {around = []} (last ∷ rest) (finished ps items marker ∷ gs) refl refl refl
       (λ m outside.
-      let h = marker_finishes p ps name items last is (ap (λ x. depth x) outside) result in
-      finishes _ last _ rest gs h.free h.goes h.leads runs)
+      let h = marker_finishes p ps name items last is (ap (λ x. depth x) outside) result in search (rules, finishes))
 
   opens_between : (ks : List Kind) (gs : List Game) → Runs p (at AfterTags ps name []) (tokens.left_bracket ∷ ks) gs
       → Runs p (at Between ps name []) (tokens.left_bracket ∷ ks) gs
@@ -224,10 +216,7 @@ game_run p {ks} rest g gs h runs =
     subst (λ ps. Runs p (at InMovetext ps n []) behind (g ∷ gs)) h.sorted
     (whole_text_run p g.pairs n rest h.last gs h.items h.marker h.result runs) in
     let set_up : IsSetUp (by_name h.given) = subst IsSetUp h.sorted h.set_up in
-    let e : ks ++ rest ≡ h.before ++ (h.tags ++ behind) = rw h.tokens (simp append_assoc) in
-    subst (λ js. Runs p no_part js (g ∷ gs)) (sym e)
-    (dropped_run p Between [] [] [] refl h.before (h.tags ++ behind) (g ∷ gs) h.dropped
-    (tags_run p behind _ h.pairs (takes h.keeps) set_up (λ none. bare_with _ _ rest h.marker (h.bare none)) whole_text))
+    let e : ks ++ rest ≡ h.before ++ (h.tags ++ behind) = rw h.tokens (simp append_assoc) in search (rules, dropped_run, tags_run, takes, bare_with)
 
 pub games_run : (p : Profile) (ks : List Kind) (gs : List Game) → SpellsGames p ks gs → Runs p no_part ks gs
 unfolding refusal

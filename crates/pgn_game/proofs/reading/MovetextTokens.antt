@@ -1,5 +1,5 @@
 -- Where a token of movetext leads, and when a marker is the Result.
-use Rattle.pgn_game.proofs.Words.{◌≡◌, ℕ, Bool, true, false, not, List, [], ◌∷◌, ◌++◌, Option, None, refl, append-nil, bytes_eq, unwrap_or, IsFalse, false≢true, fold-append, not-false, bytes_eq-Decides, Kind, InMovetext, Profile, Missing, Pair, Item, levels_of, levels_after, refusal, is_score, is_number, is_end, result_for, next, going, StandsFor, number, IsResult, arith, rules}
+use Rattle.pgn_game.proofs.Words.{◌≡◌, ℕ, Bool, true, false, not, List, [], ◌∷◌, ◌++◌, Option, None, append-nil, bytes_eq, unwrap_or, IsFalse, false≢true, fold-append, not-false, bytes_eq-Decides, Kind, InMovetext, Profile, Missing, Pair, Item, levels_of, levels_after, refusal, is_score, is_number, is_end, result_for, next, going, StandsFor, IsResult, arith, rules}
 use Rattle.pgn_game.proofs.MarkerTexts.{score_marker, marker_no_number}
 use Rattle.pgn_game.proofs.reading.RunsToEnd.{at}
 use Rattle.pgn_game.proofs.refusals.RefusalsByStage.{text_row}
@@ -36,5 +36,4 @@ pub stands_levels : (items : List Item) {k : Kind} {item : List Item} → Stands
 stands_levels items h3 = grind (arith, append-nil, levels_more)
 
 pub stands_goes : {k : Kind} {item : List Item} → StandsFor k item → is_end k ≡ false
-stands_goes (number s is) = refl
-stands_goes _ = refl
+stands_goes h1 = search rules

@@ -1,5 +1,5 @@
 -- Pairs that come one after another, and what is asked of each beside those before it.
-use Rattle.pgn_game.proofs.Words.{InOrder, ◌≡◌, ℕ, suc, ◌+◌, ◌<◌, ◌≤◌, Bool, true, false, List, [], ◌∷◌, length, refl, sym, ap, ◌∙◌, arith, Option, None, IsFalse, bytes_eq, AllByRecursion, or_parts, or_from, Profile, Pair, value_of, has_pair, insert_pair, IsPair, AreDistinct, KeepsTags, rules, fold}
+use Rattle.pgn_game.proofs.Words.{InOrder, ◌≡◌, ℕ, suc, ◌+◌, ◌<◌, ◌≤◌, Bool, List, [], ◌∷◌, length, refl, sym, ap, ◌∙◌, arith, Option, None, IsFalse, bytes_eq, AllByRecursion, or_parts, or_from, Profile, Pair, value_of, has_pair, insert_pair, IsPair, AreDistinct, KeepsTags, rules, fold}
 use Rattle.pgn_game.proofs.pairs.NameOrder.{order-insert}
 use Rattle.pgn_game.proofs.pairs.ValuesByName.{bytes_eq-true, bytes_eq-sym, either_of, either_none, pick, value_of-cons, value_of-put, has-cons, has-insert, not_among, no_value, by_insert, all-insert}
 
@@ -26,10 +26,7 @@ apart_less : (q : Pair) (ps qs : List Pair) → Apart (insert_pair q ps) qs → 
 apart_less q ps [] h = (tt, refl)
 apart_less q ps (r ∷ rs) h =
     let rest = apart_less q ps rs h.1 in
-    let here = or_parts (bytes_eq q.name r.name) _ (sym (has-insert q ps _) ∙ h.0) in (
-      (here.1, rest.0),
-      has-cons r rs _ ∙ or_from (bytes_eq r.name q.name) (has_pair rs _) (bytes_eq-sym r.name q.name ∙ here.0) rest.1,
-    )
+    let here = or_parts (bytes_eq q.name r.name) _ (sym (has-insert q ps _) ∙ h.0) in search (rules, has-cons, or_from, bytes_eq-sym)
 
 apart_more : (q : Pair) (ps qs : List Pair) → Apart ps qs → IsFalse (has_pair qs q.name) → Apart (insert_pair q ps) qs
 apart_more q ps [] h new = tt
@@ -46,8 +43,7 @@ taken_count p ps (q ∷ qs) room h =
     let more = length-insert q ps in
     let here = h.0 in
     let next : length (insert_pair q ps) ≤ p.tags = omega arith in
-    let rest = taken_count p (insert_pair q ps) qs next h.3 in
-    omega arith
+    let rest = taken_count p (insert_pair q ps) qs next h.3 in search rules
 
 taken_each : (p : Profile) (ps qs : List Pair) → Takes p ps qs → AllByRecursion (IsPair p.mode) qs
 taken_each p ps [] h = tt
@@ -57,8 +53,7 @@ taken_apart : (p : Profile) (ps qs : List Pair) → Takes p ps qs → Apart ps q
 taken_apart p ps [] h = (tt, tt)
 taken_apart p ps (q ∷ qs) h =
     let rest = taken_apart p (insert_pair q ps) qs h.3 in
-    let less = apart_less q ps qs rest.0 in
-    ((h.1, less.0), (less.1, rest.1))
+    let less = apart_less q ps qs rest.0 in search rules
 
 pub taken : {p : Profile} {qs : List Pair} → Takes p [] qs → KeepsTags p qs
 taken h = search (rules, taken_count, taken_each, taken_apart)
@@ -81,8 +76,7 @@ takes {p} {qs} h = let count = h.count in takes_from p [] qs (omega arith) h.eac
 -- The values of names in pairs of new names, all put in.
 put_later : (q : Pair) (n : List ℕ) (b : Bool) (o more : Option (List ℕ)) → bytes_eq q.name n ≡ b → (q.name ≡ n → o ≡ None)
     → either_of (pick b q.value o) more ≡ either_of o (pick b q.value more)
-put_later q n true o more is new = cc (new (bytes_eq-true q.name n is))
-put_later q n false o more is new = refl
+put_later q n b o more is new = search (rules, bytes_eq-true)
 
 pub value_of-all : (p : Profile) (ps qs : List Pair) (n : List ℕ) → Takes p ps qs
     → value_of (with_pairs ps qs) n ≡ either_of (value_of ps n) (value_of qs n)

@@ -1,5 +1,5 @@
 -- From reading to the grammar: tokens that run to their end spell the games that they finish.
-use Rattle.pgn_game.proofs.Words.{◌≡◌, ℕ, ◌+◌, ◌<◌, ◌≤◌, Bool, true, false, ◌&&◌, ◌||◌, not, List, [], ◌∷◌, ◌++◌, length, nat_lt, nat_le, refl, sym, ap, subst, ◌∙◌, arith, append_assoc, append-nil, Option, None, Some, ◌==◌, codes, bytes_eq, is_some, unwrap_or, IsTrue, IsFalse, Result, Ok, Err, list_all, bytes_eq-Decides, false≢true, not-false, leb-false, ltb-false, none-some, FenFault, NoMove, Ambiguous, escaped, Parts, Played, SanFault, Kind, Mode, Full, Reduced, BadTagName, DuplicateTag, TooManyTags, BadResult, BadFen, TagLineTooLong, SetUpWithoutFen, UnmatchedClose, MarkerInVariation, ResultDiffers, Stage, Between, AfterLeftBracket, AfterName, AfterValue, AfterTags, InMovetext, Profile, Pair, value_of, has_pair, insert_pair, Item, Game, Part, no_part, position_of, move_of, Level, levels_of, levels_after, depth, here, without_last, start_of, refusal, is_comment, in_name, is_result, is_score, is_number, is_end, is_reduced, fen_fault_field, marker_of, lacks_fen, Next, next, going, whole, AreDropped, pair, SpellsPairs, no_pair, next_pair, IsSetUp, StandsFor, number, period, glyph, comment_open, word, comment_close, Names, new_level, level_after_move, SpellsText, no_more, token, move, variation, BeginsBare, IsResult, SpellsGame, SpellsGames, no_game, next_game, rules, ReducedFen, text_refusal, common_steps}
+use Rattle.pgn_game.proofs.Words.{◌≡◌, ℕ, ◌+◌, ◌<◌, ◌≤◌, Bool, true, false, ◌&&◌, ◌||◌, not, List, [], ◌∷◌, ◌++◌, length, nat_lt, nat_le, refl, sym, ap, subst, ◌∙◌, arith, append_assoc, append-nil, Option, None, Some, ◌==◌, codes, bytes_eq, is_some, unwrap_or, IsTrue, IsFalse, Result, Ok, Err, list_all, bytes_eq-Decides, false≢true, not-false, leb-false, ltb-false, none-some, FenFault, NoMove, Ambiguous, escaped, Parts, Played, SanFault, Kind, Mode, Full, BadTagName, DuplicateTag, TooManyTags, BadResult, BadFen, TagLineTooLong, SetUpWithoutFen, UnmatchedClose, Stage, Between, AfterLeftBracket, AfterName, AfterValue, AfterTags, InMovetext, Profile, Pair, value_of, has_pair, insert_pair, Item, Game, Part, no_part, position_of, move_of, Level, levels_of, levels_after, depth, here, without_last, start_of, refusal, is_comment, in_name, is_result, is_score, is_number, is_end, is_reduced, fen_fault_field, marker_of, lacks_fen, Next, next, going, whole, AreDropped, pair, SpellsPairs, no_pair, next_pair, IsSetUp, StandsFor, number, period, glyph, comment_open, word, comment_close, Names, new_level, level_after_move, SpellsText, no_more, token, move, variation, BeginsBare, IsResult, SpellsGame, SpellsGames, no_game, next_game, rules, ReducedFen, text_refusal, common_steps}
 use Rattle.pgn_lexer.specs.Tokens as tokens
 use Rattle.pgn_game.specs.games.Game as games
 use Rattle.pgn_game.proofs.reading.RunsToEnd.{at, Runs, ends, goes, finishes}
@@ -216,8 +216,7 @@ module _ (p : Profile) (ps : List Pair) (name : List ℕ) (items : List Item) {k
       → rows_for p (at InMovetext ps name items) s (is_digits || score) score o ≡ None
       → After p (symbol_next (at InMovetext ps name items) s is_digits score o) ks gs → Text_left p ps items (tokens.symbol s ∷ ks) gs
   symbol_step s true false o digits is_marker one free after = token_step (number s digits) (after tt)
-  symbol_step s false false (Some (Ok played)) digits is_marker one free after =
-      grind (arith, common_steps, test_failed, text_more, adds_move)
+  symbol_step s false false (Some (Ok played)) digits is_marker one free after = search (rules, test_failed, text_more, adds_move)
   symbol_step s false false None digits is_marker one free after = absurd (none-some _ (sym free))
   symbol_step s false false (Some (Err NoMove)) digits is_marker one free after = absurd (none-some _ (sym free))
   symbol_step s false false (Some (Err Ambiguous)) digits is_marker one free after = absurd (none-some _ (sym free))
@@ -235,9 +234,7 @@ module _ (p : Profile) (ps : List Pair) (name : List ℕ) (items : List Item) {k
   text_step (tokens.word s) free end after = token_step (word s) (after tt)
   text_step tokens.comment_close free end after = token_step comment_close (after tt)
   text_step tokens.asterisk free end after =
-      let e = sym (text_row p (at InMovetext ps name items) tokens.asterisk refl) ∙ free in
-      marker_step refl (test_failed _ MarkerInVariation _ e)
-      (test_failed _ ResultDiffers None (rest_passed (nat_le 1 _) MarkerInVariation e)) after
+      let e = sym (text_row p (at InMovetext ps name items) tokens.asterisk refl) ∙ free in search (rules, marker_step, test_failed, rest_passed)
   text_step (tokens.symbol s) free end after = grind (arith, common_steps, symbol_step, text_row, symbol_refusal)
   text_step tokens.end free end after = absurd (false≢true (sym end))
   text_step _ free end after = absurd (none-some _ (sym free))
@@ -247,16 +244,13 @@ dropped_more : (k : Kind) (ks : List Kind) → IsTrue (is_comment k) → AreDrop
 dropped_more k ks is are = cc
 
 forced : (a : Bool) {b : Bool} → (a && b) ≡ false → a ≡ true → b ≡ false
-forced true h e = h
-forced false h e = absurd (cc)
+forced a h e = search rules
 
 position_is : (r : Result Parts FenFault) → is_some (fen_fault_field r) ≡ false → (start : Parts) × (r ≡ Ok start)
-position_is (Ok start) h = (start, refl)
-position_is (Err fault) h = absurd (cc)
+position_is r h = search rules
 
 is_full : (mode : Mode) {b : Bool} → (is_reduced mode && b) ≡ false → b ≡ true → mode ≡ Full
-is_full Full h e = refl
-is_full Reduced h e = absurd (cc)
+is_full mode h e = search rules
 
 one_dropped : (P : List Kind → Type 0) {k : Kind} {ks : List Kind} → IsTrue (is_comment k) → Dropping P ks → Dropping P (k ∷ ks)
 one_dropped P {k} is h =
@@ -289,8 +283,7 @@ module _ (p : Profile) (ps : List Pair) (name : List ℕ) (items : List Item) {k
         behind = ks;
         kinds = refl;
         room = ltb-false 249 _ short;
-        result = λ is. not-false _
-            (forced (bytes_eq name _) (test_failed (bytes_eq name _ && not _) BadResult _ e) ((bytes_eq-Decides name _).1 is));
+        result = search (rules, not-false, forced, test_failed, bytes_eq-Decides);
         fen = λ is. position_is _ (forced (bytes_eq name _) is_position ((bytes_eq-Decides name _).1 is));
         bracket = h;
       })
@@ -298,11 +291,7 @@ module _ (p : Profile) (ps : List Pair) (name : List ℕ) (items : List Item) {k
   value_step : (k : Kind) → items ≡ [] → refusal p (at AfterName ps name items) k ≡ None
       → After p (next (at AfterName ps name items) k) ks gs → Value_left p ps name (k ∷ ks) gs
   unfolding refusal
-  value_step tokens.comment_open none free after = one_dropped _ refl (after none)
-  value_step (tokens.word s) none free after = one_dropped _ refl (after none)
-  value_step tokens.comment_close none free after = one_dropped _ refl (after none)
-  value_step (tokens.str s) none free after = value_given s free (after none)
-  value_step _ none free after = absurd (none-some _ (sym free))
+  value_step k none free after = search (rules, one_dropped, value_given, none-some)
 
   name_given : (s : List ℕ) → refusal p (at AfterLeftBracket ps name items) (tokens.symbol s) ≡ None
       → Value_left p ps s ks gs → Name_left p ps (tokens.symbol s ∷ ks) gs
@@ -338,8 +327,7 @@ pair_step p {ps} {ks} free dn =
     let ys = dv.front in
     let zs = db.front in
     let q : Pair = record { name = n.name; value = v.value } in
-    let whole : ks ≡ xs ++ tokens.symbol n.name ∷ (ys ++ tokens.str v.value ∷ (zs ++ tokens.right_bracket ∷ (t.tags ++ t.behind))) =
-    cc (dn.kinds, n.kinds, dv.kinds, v.kinds, db.kinds, b.kinds, t.kinds) in (
+    let whole : ks ≡ xs ++ tokens.symbol n.name ∷ (ys ++ tokens.str v.value ∷ (zs ++ tokens.right_bracket ∷ (t.tags ++ t.behind))) = search rules in (
       record {
         tags =
             (tokens.left_bracket ∷ (xs ++ tokens.symbol n.name ∷ (ys ++ tokens.str v.value ∷ (zs ++ tokens.right_bracket ∷ [])))) ++ t.tags;
@@ -347,12 +335,7 @@ pair_step p {ps} {ks} free dn =
         behind = t.behind;
         kinds = (rw whole (simp append_assoc));
         pairs = next_pair _ t.tags q t.given (pair xs ys zs _ _ dn.dropped dv.dropped db.dropped) t.pairs;
-        takes = (
-          leb-false p.tags (length ps) free,
-          n.fresh,
-          record { name = n.is_name; room = v.room; result = v.result; fen = λ is. let h = v.fen is in (n.full is, h.0, h.1) },
-          t.takes,
-        );
+        takes = search (rules, leb-false);
         set_up = t.set_up;
         text = t.text;
       },

@@ -25,8 +25,7 @@ pub record Read_on (p : Profile) (b : Progress) (ts : List Token) (gs : List Gam
   pub runs : Runs p b.part (kinds ts) gs
 
 pub not_end : (k : Kind) → (IsLast k → ⊥) → is_end k ≡ false
-not_end tokens.end h = absurd (h tt)
-not_end _ h = refl
+not_end k h = search rules
 
 end_leads : (stage : Stage) (ps : List Pair) (name : List ℕ) (items : List Item)
     → (to : Part) × (next (at stage ps name items) tokens.end ≡ going to)

@@ -29,8 +29,7 @@ text_at old part stage agrees at = rw (← at) agrees.text
 -- a call that found a value found it in the list, and one that found none did not
 pub has_pair_found : (ps qs : List Pair) (name : List ℕ) (found : Option (Bor (List ℕ))) (b : Bool)
     → ps ≡ qs → option_copied found ≡ value_of ps name → b ≡ is_some found → has_pair qs name ≡ b
-has_pair_found ps qs name None b same copied is = cc
-has_pair_found ps qs name (Some x) b same copied is = cc
+has_pair_found ps qs name found b same copied is = search rules
 
 -- the pairs held are those of the part, so SetUp asks for the same
 pub lacks_of : (old : GameState) (part : Part) (lacks : Bool) → Agrees old part

@@ -1,5 +1,5 @@
 -- Which tokens are rejected at a stage, row by row, and where the others lead.
-use Rattle.pgn_game.proofs.Words.{◌≡◌, ℕ, ◌+◌, Bool, true, false, ◌&&◌, ◌||◌, not, List, [], length, nat_lt, nat_le, Option, None, Some, refl, sym, ◌∙◌, ◌==◌, codes, bytes_eq, is_some, Bor, IsTrue, IsFalse, Result, list_all, and_right, false≢true, escaped, left_bracket, right_bracket, symbol, str, kind_of, TokenKind, Played, SanFault, Kind, Reason, ExpectedName, BadTagName, DuplicateTag, TooManyTags, ExpectedValue, BadResult, BadFen, TagLineTooLong, ExpectedBracket, SetUpWithoutFen, ReducedFen, NotAMove, IllegalMove, AmbiguousMove, MoveLimit, MarkerInVariation, ResultDiffers, UnexpectedEnd, Stage, Between, AfterLeftBracket, AfterName, AfterValue, AfterTags, InMovetext, Profile, Pair, has_pair, insert_pair, Part, no_part, refusal, is_comment, is_end, in_name, is_result, is_no_form, is_no_move, is_many_moves, is_one_move, fen_field, fen_field_of, lacks_fen, is_reduced, going, next, at_stage, in_text, or_else, text_refusal, arith}
+use Rattle.pgn_game.proofs.Words.{◌≡◌, ℕ, ◌+◌, Bool, true, false, ◌&&◌, ◌||◌, not, List, [], length, nat_lt, nat_le, Option, None, Some, refl, sym, ◌∙◌, ◌==◌, codes, bytes_eq, is_some, Bor, IsTrue, IsFalse, Result, list_all, and_right, false≢true, escaped, left_bracket, right_bracket, symbol, str, kind_of, TokenKind, Played, SanFault, Kind, Reason, ExpectedName, BadTagName, DuplicateTag, TooManyTags, ExpectedValue, BadResult, BadFen, TagLineTooLong, ExpectedBracket, SetUpWithoutFen, ReducedFen, NotAMove, IllegalMove, AmbiguousMove, MoveLimit, MarkerInVariation, ResultDiffers, UnexpectedEnd, Stage, Between, AfterLeftBracket, AfterName, AfterValue, AfterTags, InMovetext, Profile, Pair, has_pair, insert_pair, Part, no_part, refusal, is_comment, is_end, in_name, is_result, is_no_form, is_no_move, is_many_moves, is_one_move, fen_field, fen_field_of, lacks_fen, is_reduced, going, next, at_stage, in_text, or_else, text_refusal, arith, rules}
 use Rattle.pgn_lexer.specs.Tokens as tokens
 use Rattle.pgn_lexer.specs.declared.token.TokenKind.TheVariants as token_kinds
 
@@ -15,12 +15,10 @@ module _ (test : Bool) (reason : Reason) (rest : Option Reason) where
   pass e = cc
 
 pub test_failed : (test : Bool) (reason : Reason) (rest : Option Reason) → or_else test reason rest ≡ None → test ≡ false
-test_failed true reason rest e = absurd (cc)
-test_failed false reason rest e = refl
+test_failed test reason rest e = search rules
 
 pub rest_passed : (test : Bool) (reason : Reason) {rest : Option Reason} → or_else test reason rest ≡ None → rest ≡ None
-rest_passed true reason e = absurd (cc)
-rest_passed false reason e = e
+rest_passed test reason e = search rules
 
 -- Comments in a pair and before a game.
 abbrev pub drops_comments : Stage → Bool
@@ -45,8 +43,7 @@ pub comment_stays : {stage : Stage} (part : Part) (k : Kind) → IsTrue (drops_c
 comment_stays part k drops is = grind (arith, false≢true)
 
 pub comment_goes : (k : Kind) → IsTrue (is_comment k) → is_end k ≡ false
-comment_goes tokens.end is = absurd (false≢true is)
-comment_goes _ is = refl
+comment_goes k is = search (rules, false≢true)
 
 pub comment_passes : (p : Profile) {part : Part} (k : TokenKind) {stage : Stage} → stage ≡ part.stage → IsTrue (drops_comments stage)
     → true ≡ is_comment (kind_of k) → (refusal p part (kind_of k) ≡ None) × (next part (kind_of k) ≡ going part)
@@ -142,10 +139,7 @@ textual k bracket over = grind arith
 pub after_tags : (p : Profile) (part : Part) (k : Kind) → IsTrue (is_textual k)
     → refusal p (at_stage AfterTags part) k ≡ or_else (lacks_fen part.pairs) SetUpWithoutFen (refusal p (at_stage InMovetext part) k)
 unfolding refusal
-after_tags p part tokens.left_bracket is = absurd (false≢true is)
-after_tags p part tokens.end is = absurd (false≢true is)
-after_tags p part (tokens.refused r) is = absurd (false≢true is)
-after_tags p part _ is = refl
+after_tags p part k is = search (rules, false≢true)
 
 pub leads_after_tags : (part : Part) (k : Kind) → IsTrue (is_textual k) → next (at_stage AfterTags part) k ≡ next (at_stage InMovetext part) k
 leads_after_tags part k is = grind (arith, false≢true)
@@ -165,8 +159,7 @@ unfolding refusal
 text_row p part k plain = grind (arith, false≢true)
 
 no_lexical : (k : TokenKind) → is_lexical (kind_of k) ≡ false
-no_lexical token_kinds.End = refl
-no_lexical _ = refl
+no_lexical k = search rules
 
 pub row_in_movetext : (p : Profile) (part : Part) (k : TokenKind) → part.stage ≡ InMovetext
     → refusal p part (kind_of k) ≡ text_refusal p part (kind_of k)

@@ -63,8 +63,7 @@ refused_as p (Some (Ok played)) = or_else (is_at_limit p) MoveLimit None
 
 module _ (p : Profile) (part : Part) (s : List ℕ) where
   move_rows : (r : MoveReading) → rows_for p part s false false r ≡ refused_as (position_in part) r
-  move_rows (Some (Err NoMove)) = refl
-  move_rows _ = refl
+  move_rows r = search rules
 
   pub move_refusal : is_number s ≡ false → is_score s ≡ false → text_refusal p part (symbol s) ≡ refused_as (position_in part)
       (move_of (position_in part) s)
@@ -123,8 +122,7 @@ marker_rows p part marker =
     (or_else (other_if p.missing_result part.pairs (Some marker) && (depth (levels_of_part part) == 0)) ResultDiffers None)
 
 pub score_of : (s marker : List ℕ) (b : Bool) → is_score s ≡ b → marker_if b s ≡ Some marker → (b ≡ true) × (s ≡ marker)
-score_of s marker true e h = (refl, cc)
-score_of s marker false e h = absurd (cc)
+score_of s marker b e h = search rules
 
 module _ (p : Profile) (part : Part) where
   symbol_marker : (s : List ℕ) {marker : List ℕ} → marker_of (symbol s) ≡ Some marker → text_refusal p part (symbol s) ≡ marker_rows p part marker
@@ -154,8 +152,7 @@ module _ (old : GameState) (k : Kind) where
   pub marker_differs : (missing marker : List ℕ) (part : Part) → marker_of k ≡ Some marker → depth (levels_of_part part) ≡ 0
       → result_for old.profile.missing_result marker ≡ missing → differs missing (value_of part.pairs (codes "Result")) marker ≡ true
       → text_refusal old.profile part k ≡ Some ResultDiffers
-  marker_differs missing marker part is none known test =
-      cc (marker_refusal old.profile part k is, marker_tested old.profile part missing marker false true (ap (λ n. nat_le 1 n) none) known test)
+  marker_differs missing marker part is none known test = search (rules, marker_refusal, marker_tested)
 
   pub marker_free : (missing marker : List ℕ) (part : Part) → marker_of k ≡ Some marker → depth (levels_of_part part) ≡ 0
       → result_for old.profile.missing_result marker ≡ missing → differs missing (value_of part.pairs (codes "Result")) marker ≡ false
@@ -167,8 +164,7 @@ marker_whole part k marker is = cc
 
 -- the test of a reader that has the text of a missing Result
 unwrap_copied : (o : Option (Bor (List ℕ))) (d : Bor (List ℕ)) → (unwrap_or o d).now ≡ unwrap_or (option_copied o) d.now
-unwrap_copied None d = refl
-unwrap_copied (Some x) d = refl
+unwrap_copied o d = search rules
 
 pub test_of : (held : List Pair) (value : Option (Bor (List ℕ))) (d known : Bor (List ℕ))
     (missing marker : List ℕ) (test : Bool) (tags : List Pair) → held ≡ tags

@@ -1,40 +1,34 @@
 -- One token that the lexer gave, and what the reader answered to it.
 use Rattle.pgn_lexer.specs.PartialToken.{refusal as refusal_token}
-use Rattle.pgn_game.proofs.Words.{Writing, Reason, Lexical, WriteFault, Profile, Game, Part, ◌≡◌, ℕ, ◌+◌, ◌<◌, ◌≤◌, ◌⊎◌, Bool, List, [], ◌∷◌, ◌++◌, length, take, Option, None, Some, Err, refl, sym, ap, subst, ◌∙◌, append_assoc, append-nil, length-append, arith, IsTrue, map, sum, map-append, list_any-append, or_cases, Appends, Token, Standing, Follows, first, still, More, Finished, refusal, position_if_move, position_in, Next, going, whole, next, Progress, progress_with, progress_after, Read, read, gain, text_next, plies_of, has_move, GameState, Agrees, as_written, IsBehind, plies_of_finished_games, plies_added, Leads, Answers, AppendsFront, MostTried, Raises, Tries, TriesUnwritten, sum_by-append, sum_by-cons, LexFault, finished_game_of, Converter, game_in_reader, play_moves, has_played_move, HasRead, IsLastGame, refused_stop as refused, unwritten, reported_position, FaultAtEnd, SameGames, due_as, rules, inl, inr, position_at_fault, due, torn, text_of_games as text_of, common_steps, coming, AreNext, take-append-drop, drop, tokens_of, StandsAfter}
+use Rattle.pgn_game.proofs.Words.{Writing, Reason, Lexical, WriteFault, Profile, Game, Part, ◌≡◌, ℕ, ◌+◌, ◌<◌, ◌≤◌, ◌⊎◌, Bool, List, [], ◌∷◌, ◌++◌, length, take, Option, None, Some, Err, refl, sym, ap, subst, ◌∙◌, append_assoc, append-nil, length-append, arith, IsTrue, map, sum, map-append, list_any-append, or_cases, Appends, Token, Standing, Follows, first, still, More, Finished, refusal, position_if_move, position_in, Next, next, Progress, progress_with, progress_after, Read, read, gain, text_next, plies_of, has_move, GameState, Agrees, as_written, IsBehind, plies_of_finished_games, plies_added, Leads, Answers, AppendsFront, MostTried, Raises, Tries, TriesUnwritten, sum_by-append, sum_by-cons, LexFault, finished_game_of, Converter, game_in_reader, play_moves, has_played_move, HasRead, IsLastGame, refused_stop as refused, unwritten, reported_position, FaultAtEnd, SameGames, due_as, rules, position_at_fault, due, torn, text_of_games as text_of, common_steps, coming, AreNext, take-append-drop, drop, tokens_of, StandsAfter}
 use Rattle.pgn_game.specs.steps.GameState as game_state
 use Rattle.pgn_game.proofs.stepping.PairsTriedForToken.{most_with, most_to_refused, part_probed}
 use Rattle.pgn_game.proofs.stepping.OneMoreToken.{read-passes, read-refuses, due-passes}
 use Rattle.pgn_game.proofs.stepping.NextGrows.{next_is}
 
 pub follows_first : (xs s : List ℕ) → Follows (first xs) (xs ++ s)
-follows_first [] s = tt
-follows_first (x ∷ xs) s = refl
+follows_first xs s = search rules
 
 pub follows_own : (xs : List ℕ) → Follows (first xs) xs
-follows_own [] = tt
-follows_own (x ∷ xs) = refl
+follows_own xs = search rules
 
 pub follows_none : (b : Option ℕ) → Follows b []
-follows_none None = tt
-follows_none (Some x) = tt
+follows_none b = search rules
 
 -- what a token leads to, with the games before; one that finishes no game counts no move
 leads_more : (nx : Next) (games : List Game) (r : GameState) → Leads nx More r
     → ((progress_with games nx).games ≡ games) × Agrees r (progress_with games nx).part × (plies_added nx ≡ 0)
-leads_more (going part) games r h = (refl, h, refl)
-leads_more (whole g) games r h = absurd h
+leads_more nx games r h = search rules
 
 -- what stands written then, where a missing Result is written as by w
 text_more : (w p : Profile) (nx : Next) (games : List Game) (r : GameState) → Leads nx More r
     → text_of p (progress_with games nx).games ++ torn w (progress_with games nx).part ≡ text_of p games ++ text_next w nx
-text_more w p (going part) games r h = refl
-text_more w p (whole g) games r h = absurd h
+text_more w p nx games r h = search rules
 
 leads_finished : (nx : Next) (games : List Game) (r : GameState) → Leads nx Finished r
     → (g : Game) × ((progress_with games nx).games ≡ games ++ g ∷ [])
     × Agrees r (progress_with games nx).part × IsBehind r g × (plies_added nx ≡ plies_of g)
-leads_finished (going part) games r h = absurd h
-leads_finished (whole g) games r h = (g, refl, h.agrees, h, refl)
+leads_finished nx games r h = search rules
 
 -- what the reader still holds of the game that it is behind
 pub finished_behind : {r : GameState} {g : Game} → IsBehind r g → game_in_reader r ≡ finished_game_of g
@@ -102,18 +96,7 @@ module _ (p : Profile) (old : Converter) (given : List Token) (t : Token) (l : S
       let same = same_games h leads in
       let total : plies_of_finished_games new ≡ plies_of_finished_games old.reading = omega (arith, plies, more.2) in
       let agrees : Agrees new (read p (given ++ t ∷ [])).progress.part = rw (reads h) more.1 in
-      record {
-        profile = profile ∙ has_read.profile;
-        no_fault = refl;
-        passes = rw (reads h);
-        agrees = agrees;
-        games = has_read.games ∙ ap (length {A = Game}) (sym same);
-        plies = total ∙ has_read.plies ∙ ap (λ games. sum (map plies_of games)) (sym same);
-        probed = in_either (read p (given ++ t ∷ [])).progress agrees
-            (λ moves. probed_before (in_games b (rw same at moves)));
-        tried = most_tried h tries;
-        just_finished = tt;
-      }
+      search (rules, passes, reads, in_either, probed_before, in_games, most_tried)
 
   pub has_read_game : refusal old.reading.profile b.part t.kind ≡ None → Leads (next b.part t.kind) Finished new
       → plies_of_finished_games new ≡ plies_of_finished_games old.reading + plies_added (next b.part t.kind)
@@ -132,21 +115,7 @@ module _ (p : Profile) (old : Converter) (given : List Token) (t : Token) (l : S
       let g : Game = done.0 in
       let behind : IsBehind new g = done.3 in
       let agrees : Agrees new (read p (given ++ t ∷ [])).progress.part = rw (reads h) done.2 in
-      record {
-        profile = profile ∙ has_read.profile;
-        no_fault = refl;
-        passes = rw (reads h);
-        agrees = agrees;
-        games = rw has_read.games (sym (ap (length {A = Game}) one ∙ length-append b.games (g ∷ [])));
-        plies = cc (plies, has_read.plies, done.4, one, plies-snoc b.games g);
-        probed = in_either (read p (given ++ t ∷ [])).progress agrees
-            (λ moves. elim (moves-snoc b.games g (rw one at moves)) [
-              | inl before ↦ probed_before (in_games b before)
-              | inr here ↦ behind.probed here
-            ]);
-        tried = most_tried h tries;
-        just_finished = (b.games, g, one, finished_behind behind);
-      }
+      search (rules, passes, reads, length-append, plies-snoc, in_either, moves-snoc, probed_before, in_games, most_tried, finished_behind)
 
   pub at_refused : (us : List Token) {a c : Option (List ℕ)} {reason : Reason}
       → refusal old.reading.profile b.part t.kind ≡ Some reason → Appends a c []
@@ -160,10 +129,7 @@ module _ (p : Profile) (old : Converter) (given : List Token) (t : Token) (l : S
         stops = refused (record { at = t.at; reason = reason }) (ap (λ (r : Read). r.fault) ends)
             (record { text = []; due_for = rw ends (sym (append-nil (due p given))); appended = wrote });
         no_game = ap (λ (r : Read). r.progress.games) ends;
-        counts = record {
-          tried = most_to_refused new.writing.is_silent p t us tried_before has_read.passes some (raised tries);
-          probed = search (rules, probed_before);
-        };
+        counts = search (rules, most_to_refused, tried_before, raised, probed_before);
         position = here ∙ sym (ap position_at_fault ends);
       }
 
@@ -204,16 +170,7 @@ module _ (p : Profile) (old : Converter) (given : List Token) (t : Token) (l : S
             appended = subst (λ q. Appends a c (take n (gain q b.part t.kind))) shown wrote;
           });
           no_game = refl;
-          counts = record {
-            tried = (
-              old.reading.most_probes,
-              tried_before,
-              subst (λ (silent : Bool). Raises (TriesUnwritten silent p b.part t.kind) old.reading.most_probes new.most_probes) same_silence
-                  (subst (λ q. Raises (TriesUnwritten old.reading.writing.is_silent q b.part t.kind) old.reading.most_probes new.most_probes)
-                  has_read.profile tries),
-            );
-            probed = probed_before;
-          };
+          counts = search (rules, tried_before, same_silence, probed_before);
           position = refl;
         }
 
@@ -232,8 +189,7 @@ next_in_piece l u piece used stands s =
     (coming l (rest ++ s), ap tokens_of whole ∙ stands.tokens (rest ++ s) (follows_first rest s))
 
 pub still_none : (b : Option ℕ) (piece : List ℕ) → 0 < length piece → still b piece ≡ None
-still_none b [] h = absurd (omega arith)
-still_none b (x ∷ xs) h = refl
+still_none b piece h = search rules
 
 -- the same was read by a converter with the same reader and count
 pub read_as : {p : Profile} {old new : Converter} {given : List Token} → HasRead p old given → new.reading ≡ old.reading → new.games ≡ old.games

@@ -1,6 +1,6 @@
 -- The end of a text stands behind its last byte.
 use Rattle.pgn_lexer.specs.TokensOf.{at_end, tokens_from}
-use Rattle.pgn_game.proofs.Words.{Token, ◌≡◌, ℕ, ◌+◌, Bool, true, false, List, [], ◌∷◌, ◌++◌, length, drop, suc, subst, arith, tokens_of, is_end, Found, gives, Within, begins, begins_after, begins_class, begins_first, column, onto, has_mark, AllByRecursion, common_steps}
+use Rattle.pgn_game.proofs.Words.{Token, ◌≡◌, ℕ, ◌+◌, Bool, true, false, List, [], ◌∷◌, ◌++◌, length, suc, subst, arith, tokens_of, is_end, Found, gives, Within, begins, begins_after, begins_class, begins_first, column, onto, AllByRecursion, common_steps, rules}
 
 -- nothing that begins at a byte is the end
 abbrev FoundNoEnd : Found → Type 0
@@ -44,17 +44,7 @@ from_start s = grind (arith, common_steps, from_end_at, column)
 
 -- a byte order mark is counted
 text_end_at : (s : List ℕ) → EndAt (length s) (tokens_of s)
-text_end_at (a ∷ b ∷ c ∷ s) =
-    let u = a ∷ b ∷ c ∷ s in
-    elim (has_mark u)
-    as (λ x. EndAt (length u) (elim x [ true ↦ tokens_from 3 column (drop 3 u) | false ↦ tokens_from 0 column u ])) [
-      | true ↦ rw (three (length s)) (from_end_at 3 column s)
-      | false ↦ from_start u
-    ]
-  where
-    three : (n : ℕ) → suc (suc (suc n)) ≡ 3 + n
-    three n = omega arith
-text_end_at s = from_start s
+text_end_at s = search (rules, from_end_at, from_start)
 
 all_behind : (n : ℕ) (given : List Token) (t : Token) → EndAt n (given ++ t ∷ []) → is_end t.kind ≡ true → t.at ≡ n
 all_behind n [] t all is = all.0 is

@@ -1,6 +1,6 @@
 -- Games in turn in a piece.
 use Rattle.std.proofs.Common.{take_all}
-use Rattle.pgn_game.proofs.Words.{Token, Fault, Profile, take-append-drop, drop-drop, decided, first, still, Converter, Stands, FedAll, FedGame, FedToFault, FedFault, FedWhole, ReadsUpTo, StopsIn, within_limit, at_token, too_long, AllSoFar, ◌≡◌, ℕ, ◌+◌, ◌^◌, ◌≤◌, List, [], ◌∷◌, ◌++◌, length, take, drop, Option, None, refl, sym, ap, ◌∙◌, append-nil, append_assoc, length-drop, arith, common_steps}
+use Rattle.pgn_game.proofs.Words.{Token, Fault, Profile, take-append-drop, drop-drop, decided, first, still, Converter, Stands, FedAll, FedGame, FedToFault, FedFault, FedWhole, ReadsUpTo, StopsIn, within_limit, at_token, too_long, AllSoFar, ◌≡◌, ℕ, ◌+◌, ◌^◌, List, [], ◌∷◌, ◌++◌, length, take, drop, Option, None, refl, sym, ap, ◌∙◌, append-nil, append_assoc, length-drop, arith, common_steps, rules}
 use Rattle.pgn_game.proofs.stepping.OneMoreToken.{gains_none, gains_more, stops_more}
 use Rattle.pgn_game.proofs.stepping.StepsInPiece.{further, whole_piece, decided_at_end, stands_before_any}
 
@@ -9,8 +9,7 @@ pub all_none : (p : Profile) (old : Converter) (u : List ℕ) (given : List Toke
 all_none p old u given piece o stands is_decided = grind (arith, common_steps, append-nil, stands_before_any, gains_none)
 
 pub behind_first : (xs : List ℕ) → still (first xs) xs ≡ None
-behind_first [] = refl
-behind_first (x ∷ xs) = refl
+behind_first xs = search rules
 
 module _ (p : Profile) (u : List ℕ) (given : List Token) (piece : List ℕ) (at : ℕ)
     (now : Converter) (a c d : Option (List ℕ)) (so : AllSoFar p u given piece at now a c) where
@@ -37,11 +36,7 @@ module _ (p : Profile) (u : List ℕ) (given : List Token) (piece : List ℕ) (a
       }
     where
       which : (xs : List ℕ) → drop at piece ≡ xs → fed.tokens ≡ decided (u ++ piece)
-      which [] e =
-          let long : length piece ≤ at = omega (arith, length-drop at piece, ap (length {A = ℕ}) e) in
-          let known = rw (take_all at piece long) at so.decided in
-          fed.empty (ap (length {A = ℕ}) e) ∙ decided_at_end (u ++ piece) so.tokens (rw e at known)
-      which (x ∷ xs) e = fed.decided (rw e (omega arith)) ∙ ap decided (whole_piece u piece at)
+      which xs e = search (rules, length-drop, take_all, decided_at_end, whole_piece)
 
   all_fault : {f : Fault} → FedFault p (within_limit ((u ++ take at piece) ++ drop at piece)) so.tokens f c d
       → FedFault p (within_limit (u ++ piece)) given f a d
@@ -66,10 +61,7 @@ module _ (p : Profile) (u : List ℕ) (given : List Token) (piece : List ℕ) (a
       text = append_assoc u (take at piece) front
 
       which : (xs : List ℕ) → front ≡ xs → fed.tokens ≡ decided (u ++ (take at piece ++ front))
-      which [] e =
-          let here : (u ++ take at piece) ++ front ≡ u ++ take at piece = rw e (append-nil (u ++ take at piece)) in
-          fed.empty (ap (length {A = ℕ}) e) ∙ so.at_limit (sym (ap (length {A = ℕ}) here) ∙ end) ∙ ap decided (sym here ∙ text)
-      which (x ∷ xs) e = fed.decided (rw e (omega arith)) ∙ ap decided text
+      which xs e = search (rules, append-nil, text)
 
   pub all_stops : (new : Converter) (f : Fault) → StopsIn (u ++ take at piece) (drop at piece)
       (λ bytes fault. FedToFault p bytes so.tokens fault new.reading c d)

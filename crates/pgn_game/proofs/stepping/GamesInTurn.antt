@@ -1,5 +1,5 @@
 -- Games read in turn from a source.
-use Rattle.pgn_game.proofs.Words.{Token, Profile, Game, no_part, ◌≡◌, ℕ, true, List, [], ◌∷◌, ◌++◌, length, Option, None, Some, ap, append-nil, length-append, arith, Consumes-nil, Games, games_of, HaveRead, NoGame, text_of_games as text_of, whole, Progress, read, written_so_far as written, Converter, rules, going, common_steps}
+use Rattle.pgn_game.proofs.Words.{Token, Profile, Game, no_part, ◌≡◌, ℕ, true, List, [], ◌∷◌, ◌++◌, length, Option, None, Some, ap, append-nil, length-append, arith, Consumes-nil, Games, games_of, HaveRead, NoGame, text_of_games as text_of, Progress, read, written_so_far as written, Converter, rules}
 use Rattle.pgn_game.proofs.stepping.OneMoreToken.{read-passes, read-refuses, stops_from, torn-none, gains_none}
 use Rattle.pgn_game.proofs.stepping.StepsAtEnd.{let_go}
 
@@ -21,8 +21,7 @@ not_one_more {gs} g e = absurd (omega (arith, ap (length {A = Game}) e, length-a
 -- the token that finishes a game leaves no part of one
 pub none_behind : (p : Profile) (ts : List Token) (t : Token) (g : Game) → (read p (ts ++ t ∷ [])).fault ≡ None
     → (read p (ts ++ t ∷ [])).progress.games ≡ (read p ts).progress.games ++ g ∷ [] → (read p (ts ++ t ∷ [])).progress.part ≡ no_part
-none_behind p ts t g passes one =
-    grind (arith, common_steps, passes_before, going, not_one_more, whole, none_or_some, read-refuses, read-passes)
+none_behind p ts t g passes one = search (rules, passes_before, not_one_more, none_or_some, read-refuses, read-passes)
 
 -- ---- one call
 

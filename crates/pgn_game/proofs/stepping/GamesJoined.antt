@@ -1,5 +1,5 @@
 -- Calls of `next` one after another.
-use Rattle.pgn_game.proofs.Words.{Profile, Game, ◌≡◌, ℕ, ◌-◌, ◌^◌, ◌∷◌, ◌++◌, true, false, List, [], map, Option, Some, Ok, Err, refl, subst, Consumes-nil, Consumes-trans, Appends, Consumes, coming, first, Token, tokens_of, plies_of, FinishedGame, finished_game_of, Games, HaveRead, ReadSoFar, NextGame, games_read, append_assoc, append-nil, map-append, length-map, IfSome, rules, length, sum, sym, ap, read, totals, ◌∙◌, arith, common_steps}
+use Rattle.pgn_game.proofs.Words.{Profile, Game, ◌≡◌, ℕ, ◌-◌, ◌^◌, ◌∷◌, ◌++◌, true, false, List, [], map, Option, Some, Ok, Err, refl, subst, Consumes-nil, Consumes-trans, Appends, Consumes, coming, first, Token, tokens_of, plies_of, FinishedGame, finished_game_of, Games, HaveRead, ReadSoFar, NextGame, games_read, append_assoc, append-nil, map-append, length-map, IfSome, rules, length, sym, ap, ◌∙◌, arith, common_steps}
 use Rattle.pgn_game.specs.public.GamesCalls as games_calls
 use Rattle.pgn_game.specs.laws.GamesJoined as games_joined
 use Rattle.pgn_game.specs.laws.GamesJoined.{TakesGames, GamesJoin}
@@ -53,13 +53,7 @@ module _ (p : Profile) (left before : Option (List ℕ)) (first : Games) (begins
       let so = so_far calls in
       let next = reads p so.reads.bytes so.reads.tokens so.reads.have_read in
       record {
-        reads = record {
-          bytes = so.reads.bytes ++ next.more;
-          tokens = next.tokens;
-          consumed = Consumes-trans left source.before source.after so.reads.bytes next.more so.reads.consumed next.consumed;
-          have_read = next.have_read;
-          gains = gains_more so.reads.gains next.gains;
-        };
+        reads = search (rules, Consumes-trans, gains_more);
         games = taken_more game so next e;
       }
 
@@ -87,13 +81,8 @@ games_join p left before first old new taken (Ok false) source sink begins calls
     (record {
       short = end.have_read_all.short;
       games = same;
-      counts = verdict_passes (read p (tokens_of text)) end.have_read_all.has_read.passes
-          ∙ ap (λ n. totals (record { games = n; plies = sum (map plies_of games) }))
-          (sym (length-map games finished_game_of) ∙ ap length (sym same))
-          ∙ ap (λ l. totals (record { games = length taken; plies = sum l }))
-          (sym (plies_taken games) ∙ ap (map (λ (game : FinishedGame). game.plies)) (sym same));
-      written = appended
-          (gains_more so.reads.gains end.gains);
+      counts = search (rules, verdict_passes, length-map, plies_taken);
+      written = search (rules, appended, gains_more);
     })
 games_join p left before first old new taken (Err f) source sink begins calls reads =
     let so = so_far p left before first begins calls in

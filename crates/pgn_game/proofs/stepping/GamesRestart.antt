@@ -1,7 +1,6 @@
 -- A text that is converted from the end of a game on.
-use Rattle.pgn_lexer.specs.Tokens as tokens
 use Rattle.pgn_lexer.specs.WhiteSpace.{white_space}
-use Rattle.pgn_game.proofs.Words.{Kind, Token, Profile, Game, no_part, ◌≡◌, ℕ, ◌+◌, false, List, [], ◌∷◌, ◌++◌, length, Some, refl, sym, ap, ◌∙◌, append_assoc, append-nil, length-append, map, sum, tokens_of, plies_of, marker_of, games_read, counting_also, GamesRestart, sum-map, sum_by-append, TextsRestart, CanBeMarker, game_text, text_of_games as text_of, Next, going, whole, next, Progress, progress_with, progress_after, no_progress, Read, read_from, read, written_so_far as written, verdict_of, rules, Part, arith, torn}
+use Rattle.pgn_game.proofs.Words.{Kind, Token, Profile, Game, no_part, ◌≡◌, ℕ, ◌+◌, false, List, [], ◌∷◌, ◌++◌, length, Some, refl, sym, ap, ◌∙◌, append_assoc, append-nil, length-append, map, sum, tokens_of, plies_of, marker_of, games_read, counting_also, GamesRestart, sum-map, sum_by-append, TextsRestart, CanBeMarker, game_text, text_of_games as text_of, Next, next, Progress, progress_with, progress_after, no_progress, Read, read_from, read, written_so_far as written, verdict_of, rules, Part, arith, torn}
 use Rattle.pgn_game.proofs.stepping.OneMoreToken.{by_token, goes_on, read_from-test, after_test}
 use Rattle.pgn_game.proofs.stepping.GamesInTurn.{none_behind}
 use Rattle.pgn_game.proofs.stepping.MarkerEndsGame.{games_end_by_marker}
@@ -16,8 +15,7 @@ abbrev reads_with_front : List Game → Read → Read
 reads_with_front games r = record { progress = with_front games r.progress; fault = r.fault }
 
 front_of_next : (games : List Game) (b : List Game) (nx : Next) → progress_with (games ++ b) nx ≡ with_front games (progress_with b nx)
-front_of_next games b (going part) = refl
-front_of_next games b (whole g) = rw (append_assoc games b (g ∷ []))
+front_of_next games b nx = search (rules, append_assoc)
 
 front_stays : (p : Profile) (games : List Game) (b : Progress) (ts : List Token)
     → read_from p (with_front games b) ts ≡ reads_with_front games (read_from p b ts)
@@ -44,9 +42,7 @@ verdict_with_front games r = search (rules, length-append, plies_of_both)
 -- ---- A marker
 
 can_be : (k : Kind) (marker : List ℕ) → marker_of k ≡ Some marker → CanBeMarker k
-can_be tokens.asterisk marker is = tt
-can_be (tokens.symbol s) marker is = tt
-can_be _ marker is = absurd (cc)
+can_be k marker is = search rules
 
 pub games_restart : TextsRestart → GamesRestart
 games_restart restart p u s given rest marker cut ends finishes =
@@ -62,8 +58,4 @@ games_restart restart p u s given rest marker cut ends finishes =
     ap (read p) (cut ∙ sym (append_assoc given (marker ∷ []) rest)) ∙ reads_behind p no_progress ts rest finishes.passes
     ∙ ap (λ (c : Progress). read_from p c rest) (progress ∙ ap (λ (l : List Game). record { games = l; part = no_part }) (sym (append-nil gs)))
     ∙ front_stays p gs no_progress rest ∙ ap (λ (us : List Token). reads_with_front gs (read p us)) same in
-    record {
-      same_games = ap (λ (r : Read). r.progress.games) joined;
-      same_output = rw joined (written_with_front p gs (read p (tokens_of later)).progress);
-      same_verdict = ap verdict_of joined ∙ verdict_with_front gs (read p (tokens_of later));
-    }
+    search (rules, written_with_front, verdict_with_front)

@@ -7,7 +7,7 @@ use Rattle.pgn_lexer.specs.declared.partial_token.Text.TheVariants as texts
 use Rattle.pgn_lexer.specs.declared.token.LexReason.TheVariants.{BadSuffix}
 use Rattle.pgn_lexer.specs.Spelling.{suffix_at}
 use Rattle.pgn_lexer.specs.Tokens as tokens
-use Rattle.pgn_game.proofs.Words.{Kind, Token, Reason, Profile, Missing, counts_as, takes_the_marker, Stage, Between, Pair, Item, Game, Part, no_part, ◌≡◌, ℕ, ◌<◌, Bool, true, false, List, [], ◌∷◌, ◌++◌, length, length-append, Option, None, Some, refl, ap, subst, ◌∙◌, append-nil, arith, inl, ◌⊎◌, IsLast, Standing, coming, refusal, if◌then◌else◌, LexReason, SymbolTooLong, WordTooLong, GlyphRange, gives, stops, onto, ◌==◌, tokens_to_come_in, text_of_games as text_of, torn, Progress, Next, Read, progress_after, progress_with, going, next, next_in, read_from, whole, written_so_far as written, rules, nat_le, sym, common_steps}
+use Rattle.pgn_game.proofs.Words.{Kind, Token, Reason, Profile, Missing, Stage, Between, Pair, Item, Game, Part, no_part, ◌≡◌, ℕ, ◌<◌, Bool, true, false, List, [], ◌∷◌, ◌++◌, length, length-append, Option, None, Some, refl, ap, subst, ◌∙◌, append-nil, arith, inl, ◌⊎◌, IsLast, Standing, coming, refusal, if◌then◌else◌, LexReason, SymbolTooLong, WordTooLong, GlyphRange, gives, stops, onto, ◌==◌, tokens_to_come_in, text_of_games as text_of, torn, Progress, Next, Read, progress_after, progress_with, next, next_in, read_from, written_so_far as written, rules, nat_le}
 use Rattle.pgn_game.proofs.stepping.OneMoreToken.{after_test, by_token, first_passes, goes_on, read_from-test}
 
 reads_on : (p : Profile) (b : Progress) (t : Token) (ts : List Token) {o : Option Reason}
@@ -63,8 +63,7 @@ AddsOne gs r = (r.progress.games ≡ gs) ⊎ ((r.fault ≡ None) × ((g : Game) 
 
 last_games : (p : Profile) (b : Progress) {ts : List Token} → AreLast ts → AddsOne b.games (read_from p b ts)
 last_games p b (quiet ts q has) = inl (quiet_games p b ts q)
-last_games p b (one t at) =
-    grind (arith, common_steps, by_token, going, quiet_games, whole, reads_on, end_passes)
+last_games p b (one t at) = search (rules, by_token, quiet_games, reads_on, end_passes)
 
 -- ---- the end
 
@@ -73,23 +72,19 @@ some-none e = cc
 
 torn_between : (missing : Missing) (p : Profile) (ps : List Pair) (name : List ℕ) (items : List Item) → p.missing_result ≡ missing
     → torn p (record { stage = Between; pairs = ps; name = name; items = items }) ≡ []
-torn_between (counts_as text) p ps name items is = rw is
-torn_between takes_the_marker p ps name items is = rw is
+torn_between missing p ps name items is = search rules
 
 -- the end is accepted only where no game is begun
 end_torn : (p : Profile) (gs : List Game) (stage : Stage) (ps : List Pair) (name : List ℕ) (items : List Item)
     → refusal p (record { stage = stage; pairs = ps; name = name; items = items }) tokens.end ≡ None
     → torn p (progress_with gs (next (record { stage = stage; pairs = ps; name = name; items = items }) tokens.end)).part ≡ []
 unfolding refusal
-end_torn p gs Between ps name items free = torn_between p.missing_result p ps name items refl
-end_torn p gs _ ps name items free = absurd (some-none free)
+end_torn p gs stage ps name items free = search (rules, torn_between, some-none)
 
 last_torn : (p : Profile) (b : Progress) (place : ℕ) (k : Kind) → IsLast k → refusal p b.part k ≡ None
     → torn p (progress_after b (record { at = place; kind = k })).part ≡ []
 unfolding refusal
-last_torn p b place (tokens.refused r) last free = absurd (some-none free)
-last_torn p b place tokens.end last free = end_torn p b.games b.part.stage b.part.pairs b.part.name b.part.items free
-last_torn p b place _ last free = absurd last
+last_torn p b place k last free = search (rules, some-none, end_torn)
 
 pub none_torn : (p : Profile) (b : Progress) (ts : List Token) → HasLast ts
     → (read_from p b ts).fault ≡ None → torn p (read_from p b ts).progress.part ≡ []
@@ -131,8 +126,7 @@ one_of false m n = glyph n
 one_of_four : {mode : LexMode} {place at : ℕ} {text : List ℕ} (c d : Bool)
     → IsLeft mode place at text (onto at (if c then (if d then gives (tokens.glyph 3) else gives (tokens.glyph 5))
     else (if d then gives (tokens.glyph 6) else gives (tokens.glyph 4))) (end_at place ∷ []))
-one_of_four true d = one_of d 3 5
-one_of_four false d = one_of d 6 4
+one_of_four c d = search (rules, one_of)
 
 suffix_left : {mode : LexMode} {place at : ℕ} {text : List ℕ} (run : List ℕ) → IsLeft mode place at text (onto at (suffix_at at run) (end_at place ∷ []))
 suffix_left [] = none _ (refused BadSuffix, tt) tt
@@ -195,13 +189,7 @@ module _ (p : Profile) (b : Progress) (l : Standing) where
       by_next : (m last : Token) (nx : Next) → last.kind ≡ tokens.end → next b.part m.kind ≡ nx
           → length (written p (progress_after b m)) < length (written p (progress_after (progress_after b m) last))
           → (progress_after b m).games ≡ b.games
-      by_next m last (going part) is leads more = ap (λ (n : Next). (progress_with b.games n).games) leads
-      by_next m last (whole g) is leads more =
-          let after : progress_after b m ≡ record { games = b.games ++ g ∷ []; part = no_part } = ap (progress_with b.games) leads in
-          let same : written p (progress_after (progress_after b m) last) ≡ written p (progress_after b m) =
-          ap (λ (c : Progress). written p (progress_with c.games (next c.part last.kind))) after
-          ∙ ap (λ k. written p (progress_with (b.games ++ g ∷ []) (next no_part k))) is ∙ ap (written p) (sym after) in
-          absurd (omega (arith, more, ap (length {A = ℕ}) same))
+      by_next m last nx is leads more = search rules
 
       by_last : (front ts : List Token) → AreLast ts → ts ≡ front ++ token ∷ rest → (read_from p b (front ++ token ∷ [])).fault ≡ None
           → length (written p (read_from p b front).progress) < length (written p (read_from p b (front ++ token ∷ [])).progress)
@@ -209,12 +197,5 @@ module _ (p : Profile) (b : Progress) (l : Standing) where
       by_last [] ts last cut passes more = refl
       by_last (m ∷ mid) _ (quiet ts q has) cut passes more =
           quiet_games p b (m ∷ mid) (quiet_front (m ∷ mid) (token ∷ rest) (subst AreQuiet cut q))
-      by_last (m ∷ []) _ (one t at) cut passes more =
-          let free = first_passes p b m (token ∷ []) passes in
-          let here = goes_on p b m (token ∷ []) free in
-          let there = goes_on p (progress_after b m) token [] (first_passes p (progress_after b m) token [] (rw here at passes)) in
-          let before = goes_on p b m [] free in
-          let is : token ≡ record { at = at; kind = tokens.end } = cc in
-          rw before (by_next m token (next b.part m.kind) (ap (λ (t : Token). t.kind) is) refl
-          (rw (here ∙ there) at (rw before at more)))
+      by_last (m ∷ []) _ (one t at) cut passes more = search (rules, first_passes, goes_on, by_next)
       by_last (m ∷ n ∷ mid) _ (one t at) cut passes more = absurd (omega (arith, ap (length {A = Token}) cut, length-append mid (token ∷ rest)))

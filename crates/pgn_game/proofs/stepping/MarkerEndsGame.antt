@@ -1,6 +1,5 @@
 -- The token that finishes a game is its marker, which is the Result of its tag section.
-use Rattle.pgn_lexer.specs.Tokens as tokens
-use Rattle.pgn_game.proofs.Words.{Kind, Token, Reason, Stage, AfterLeftBracket, AfterName, AfterValue, Profile, value_of, Game, Part, ◌≡◌, ℕ, false, List, [], ◌∷◌, ◌++◌, Option, None, Some, refl, codes, unwrap_or, IsTrue, IsFalse, not-false, bytes_eq-Decides, refusal, marker_of, is_comment, result_for, text_refusal, Next, going, whole, next, next_in, in_text, at_stage, progress_with, read, games_read, FinishesGame, EndsByMarker, GamesEndByMarker, rules, SetUpWithoutFen, Between, AfterTags, InMovetext, sym, ◌∙◌, lacks_fen, ap, Read, subst, Progress, arith, common_steps}
+use Rattle.pgn_game.proofs.Words.{Kind, Token, Reason, Stage, AfterLeftBracket, AfterName, AfterValue, Profile, value_of, Game, Part, ◌≡◌, ℕ, false, List, [], ◌∷◌, ◌++◌, Option, None, Some, refl, codes, unwrap_or, IsTrue, IsFalse, not-false, bytes_eq-Decides, refusal, marker_of, is_comment, result_for, text_refusal, Next, going, whole, next, next_in, in_text, at_stage, progress_with, read, games_read, FinishesGame, EndsByMarker, GamesEndByMarker, rules, subst}
 use Rattle.pgn_game.proofs.exporting.PairsExportedAgain.{result_of}
 use Rattle.pgn_game.proofs.pairs.ExportedValues.{exported_known}
 use Rattle.pgn_game.proofs.refusals.RefusalsByStage.{is_textual, is_lexical, after_tags, between, rest_passed, test_failed, text_row}
@@ -22,16 +21,13 @@ leads_in : (stage : Stage) (part : Part) (k : Kind) → Leads k part (next_in st
 leads_in stage part k = search (rules, text_leads)
 
 none_in_name : (part : Part) (k : Kind) (g : Game) → next_in AfterLeftBracket part k ≡ whole g → ⊥
-none_in_name part (tokens.symbol name) g e = absurd (cc)
-none_in_name part k g e = absurd (cc)
+none_in_name part k g e = search rules
 
 none_in_value : (part : Part) (k : Kind) (g : Game) → next_in AfterName part k ≡ whole g → ⊥
-none_in_value part (tokens.str value) g e = absurd (cc)
-none_in_value part k g e = absurd (cc)
+none_in_value part k g e = search rules
 
 none_behind_value : (part : Part) (k : Kind) (g : Game) → next_in AfterValue part k ≡ whole g → ⊥
-none_behind_value part tokens.right_bracket g e = absurd (cc)
-none_behind_value part k g e = absurd (cc)
+none_behind_value part k g e = search rules
 
 -- ---- What the table asks of a marker
 
@@ -42,24 +38,16 @@ record IsPlain (k : Kind) : Type 0 where
   sound : is_lexical k ≡ false
 
 plain : (k : Kind) (marker : List ℕ) → marker_of k ≡ Some marker → IsPlain k
-plain tokens.asterisk marker is = record { textual = refl; bare = refl; sound = refl }
-plain (tokens.symbol s) marker is = record { textual = refl; bare = refl; sound = refl }
-plain _ marker is = absurd (cc)
+plain k marker is = search rules
 
 passes_in_text : (p : Profile) (stage : Stage) (part : Part) (k : Kind) (g : Game) → IsPlain k
     → refusal p (at_stage stage part) k ≡ None → next_in stage part k ≡ whole g → text_refusal p part k ≡ None
-passes_in_text p Between part k g is free leads = sym (text_row p part k is.sound) ∙ sym (between p part k is.textual is.bare) ∙ free
-passes_in_text p AfterLeftBracket part k g is free leads = absurd (none_in_name part k g leads)
-passes_in_text p AfterName part k g is free leads = absurd (none_in_value part k g leads)
-passes_in_text p AfterValue part k g is free leads = absurd (none_behind_value part k g leads)
-passes_in_text p AfterTags part k g is free leads =
-    sym (text_row p part k is.sound) ∙ rest_passed (lacks_fen part.pairs) SetUpWithoutFen (sym (after_tags p part k is.textual) ∙ free)
-passes_in_text p InMovetext part k g is free leads = sym (text_row p part k is.sound) ∙ free
+passes_in_text p stage part k g is free leads =
+    search (rules, text_row, between, none_in_name, none_in_value, none_behind_value, rest_passed, after_tags)
 
 same_result : (p : Profile) (part : Part) (k : Kind) (marker : List ℕ) → marker_of k ≡ Some marker → text_refusal p part k ≡ None
     → marker ≡ unwrap_or (value_of part.pairs (codes "Result")) (result_for p.missing_result marker)
-same_result p part k marker is free =
-    grind (arith, common_steps, marker_refusal, unwrap_or, same_at_zero, test_failed, rest_passed, bytes_eq-Decides, not-false)
+same_result p part k marker is free = search (rules, marker_refusal, same_at_zero, test_failed, rest_passed, bytes_eq-Decides, not-false)
 
 -- ---- A game that was read
 
@@ -77,23 +65,14 @@ module _ (p : Profile) (given : List Token) (marker : Token) (finishes : Finishe
       let kind : marker_of marker.kind ≡ Some finishes.game.marker = rw same at led.0 in
       let text_free = passes_in_text p part.stage part marker.kind g (plain marker.kind g.marker led.0) free leads in
       let result = same_result p part marker.kind finishes.game.marker kind text_free in
-      let known = result_for p.missing_result finishes.game.marker in
-      record {
-        is_marker = kind;
-        result = exported_known p.mode known finishes.game.pairs (codes "Result") (result_of known)
-            ∙ ap (λ ps. Some (unwrap_or (value_of ps (codes "Result")) known)) (ap (λ (h : Game). h.pairs) (sym same) ∙ led.1)
-            ∙ ap Some (sym result);
-        whole = due_between p (read p (given ++ marker ∷ [])).progress (none_behind p given marker finishes.game finishes.passes finishes.one_more);
-      }
+      let known = result_for p.missing_result finishes.game.marker in search (rules, exported_known, result_of, due_between, none_behind)
 
   by_next : (nx : Next) → refusal p part marker.kind ≡ None → next part marker.kind ≡ nx
       → (read p (given ++ marker ∷ [])).progress ≡ progress_with (games_read p given) nx → EndsByMarker p given marker finishes.game
-  by_next (going to) free leads after = absurd (not_one_more finishes.game (sym (ap (λ (b : Progress). b.games) after) ∙ finishes.one_more))
-  by_next (whole g) free leads after = grind (arith, common_steps, of_game, last_is)
+  by_next nx free leads after = search (rules, not_one_more, of_game, last_is)
 
   by_test : (o : Option Reason) → refusal p part marker.kind ≡ o → EndsByMarker p given marker finishes.game
-  by_test (Some reason) is = absurd (none_or_some _ (ap (λ (r : Read). r.fault) (read-refuses p given marker [] reason before is)) finishes.passes)
-  by_test None is = by_next (next part marker.kind) is refl (ap (λ (r : Read). r.progress) (read-passes p given marker before is))
+  by_test o is = search (rules, none_or_some, read-refuses, before, by_next, read-passes)
 
 pub games_end_by_marker : GamesEndByMarker
 games_end_by_marker p given marker finishes = by_test p given marker finishes (refusal p (read p given).progress.part marker.kind) refl

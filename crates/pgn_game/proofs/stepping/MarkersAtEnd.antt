@@ -4,9 +4,9 @@ use Rattle.pgn_lexer.specs.declared.partial_token.LexMode.TheVariants as modes
 use Rattle.pgn_lexer.specs.declared.partial_token.Text.TheVariants as texts
 use Rattle.pgn_lexer.specs.Tokens as tokens
 use Rattle.pgn_game.proofs.MarkerTexts.{score_marker, marker_short}
-use Rattle.pgn_game.proofs.Words.{Token, Kind, StandsAfter, ◌≡◌, ℕ, ◌+◌, ◌≤◌, Bool, true, false, IsTrue, is_some, List, [], ◌∷◌, ◌++◌, length, nat_le, None, Some, refl, sym, ap, ◌∙◌, drop, append_assoc, length-append, arith, le-leb, false≢true, Standing, coming, is_score, marker_of, if◌then◌else◌, drop_at, drop-append-le, drop-drop, length-drop, SymbolTooLong, gives, stops, onto, tokens_to_come_in, BeginsWithToken, SymbolsStandInText}
+use Rattle.pgn_game.proofs.Words.{Token, Kind, StandsAfter, ◌≡◌, ℕ, ◌+◌, ◌≤◌, Bool, true, false, IsTrue, is_some, List, [], ◌∷◌, ◌++◌, length, nat_le, None, refl, sym, ap, ◌∙◌, drop, append_assoc, length-append, arith, le-leb, false≢true, Standing, coming, is_score, marker_of, if◌then◌else◌, drop_at, drop-append-le, drop-drop, length-drop, SymbolTooLong, gives, stops, onto, tokens_to_come_in, BeginsWithToken, SymbolsStandInText, rules}
 use Rattle.pgn_game.specs.public.ItemsCalls.{MarkersEndAt}
-use Rattle.pgn_game.proofs.stepping.LastTokens.{AreQuiet, IsLeft, IsQuiet, close, end, glyph, left_in, none, refused, symbol, token_at, word}
+use Rattle.pgn_game.proofs.stepping.LastTokens.{AreQuiet, IsLeft, IsQuiet, close, end, glyph, left_in, refused, symbol, token_at, word}
 
 -- ---- a symbol that goes on to the end
 
@@ -75,9 +75,7 @@ quiet_ends place [] quiet = tt
 quiet_ends place (t ∷ ts) (here, rest) = (none_ends t.kind (quiet_none t.kind here), quiet_ends place ts rest)
 
 is_score_if : (text : List ℕ) (b : Bool) → is_score text ≡ b → IsTrue (is_some (marker_of (tokens.symbol text))) → is_score text ≡ true
-is_score_if text true score is = score
-is_score_if text false score is =
-    none_ends (tokens.symbol text) (ap (λ (b : Bool). elim b [ true ↦ Some text | false ↦ None ]) score) is
+is_score_if text b score is = search (rules, none_ends)
 
 module _ (stand : SymbolsStandInText) (l : Standing) (u : List ℕ) (given : List Token) (lexer : StandsAfter l u None given) where
   pub score_ends : l.held.mode ≡ (modes.Text texts.Symbol) → is_score (l.held.text ++ []) ≡ true → length u ≡ l.held.at + length (l.held.text ++ [])
@@ -96,12 +94,7 @@ module _ (stand : SymbolsStandInText) (l : Standing) (u : List ℕ) (given : Lis
       ∙ ap (λ ts. given ++ ts) two.1))
 
   by_left : (ts : List Token) → IsLeft l.held.mode l.count l.held.at l.held.text ts → MarkersEndAt (length u) ts
-  by_left ts (none us quiet has) = quiet_ends (length u) us quiet
-  by_left _ (glyph n) = (none_ends (tokens.glyph n) refl, (none_ends tokens.end refl, tt))
-  by_left _ (symbol mode) = (
-    λ is. score_ends mode (is_score_if (l.held.text ++ []) (is_score (l.held.text ++ [])) refl is),
-    (none_ends tokens.end refl, tt),
-  )
+  by_left ts h1 = search (rules, quiet_ends, glyph, none_ends, symbol, score_ends, is_score_if)
 
   pub markers_end : MarkersEndAt (length u) (coming l [])
   markers_end = by_left (coming l []) (left_in l.held.mode)

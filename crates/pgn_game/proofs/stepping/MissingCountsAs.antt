@@ -1,5 +1,5 @@
 -- A converter that has read no token, where a missing Result counts as another marker from now on.
-use Rattle.pgn_game.proofs.Words.{Agrees, HoldsText, Stage, Between, StillStands, silenced, writing_nothing, Fault, Profile, ◌≡◌, Bool, true, false, [], ℕ, Option, refl, Standing, Marker, marker_text, counting, HasRead, takes_the_marker, with_missing, no_part, letting_missing_result_take_marker, ReadsByMarker, reading_by_marker, arith, common_steps, GameState, Converter, CountsMissingAs, IsSound, counting_missing_as, game_in_reader_if, MostTried, none, rules}
+use Rattle.pgn_game.proofs.Words.{Agrees, HoldsText, Stage, Between, StillStands, silenced, writing_nothing, Fault, Profile, ◌≡◌, Bool, [], ℕ, Option, Standing, Marker, marker_text, counting, HasRead, takes_the_marker, with_missing, no_part, letting_missing_result_take_marker, ReadsByMarker, reading_by_marker, arith, common_steps, GameState, Converter, CountsMissingAs, IsSound, counting_missing_as, game_in_reader_if, MostTried, none, rules}
 use Rattle.pgn_game.proofs.twice.MarkerCounts.{agrees_under}
 
 abbrev pub reader_counting : Marker → GameState → GameState
@@ -7,8 +7,7 @@ reader_counting marker r = record r { profile = counting r.profile (marker_text 
 
 pub finished_alike : (finished : Bool) (marker : Marker) (r : GameState)
     → game_in_reader_if finished (reader_counting marker r) ≡ game_in_reader_if finished r
-finished_alike true marker r = refl
-finished_alike false marker r = refl
+finished_alike finished marker r = search rules
 
 pub none_tried : {silent quiet : Bool} {p q : Profile} {n : ℕ} → MostTried silent p [] n → MostTried quiet q [] n
 none_tried (none b) = none b
@@ -22,12 +21,10 @@ sound_counting marker l r games has_finished_game is_finished fault sound = sear
 
 -- A converter that has read no token writes nothing from now on.
 pub finished_silently : (finished : Bool) (r : GameState) → game_in_reader_if finished (silenced r) ≡ game_in_reader_if finished r
-finished_silently true r = refl
-finished_silently false r = refl
+finished_silently finished r = search rules
 
 silent_text : (r : GameState) (stage : Stage) → stage ≡ Between → HoldsText stage r no_part → HoldsText stage (silenced r) no_part
-silent_text r Between at h = h
-silent_text r _ at h = absurd (cc)
+silent_text r stage at h = search rules
 
 silent_agrees : (r : GameState) → Agrees r no_part → Agrees (silenced r) no_part
 silent_agrees r h = record { stage = h.stage; pairs = h.pairs; text = silent_text r r.stage h.stage h.text }

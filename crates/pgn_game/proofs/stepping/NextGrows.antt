@@ -1,6 +1,6 @@
 -- A token takes nothing back: what stands written of a game begins what stands written of it a
 -- token later.
-use Rattle.pgn_game.proofs.Words.{Kind, Mode, Stage, InMovetext, Profile, Missing, counts_as, takes_the_marker, Pair, Item, Part, ◌≡◌, ℕ, List, [], ◌∷◌, ◌++◌, length, drop, None, Some, refl, sym, ap, subst, ◌∙◌, append_assoc, drop-append_seam, start_of, marker_of, tag_section, tokens_out, torn, going, whole, next, next_in, items_of, text_next, IsPrefix, lines_of, text_of as text_of_lines}
+use Rattle.pgn_game.proofs.Words.{Kind, Mode, Stage, InMovetext, Profile, Missing, counts_as, takes_the_marker, Pair, Item, Part, ◌≡◌, ℕ, List, [], ◌∷◌, ◌++◌, length, drop, None, Some, refl, sym, ap, subst, ◌∙◌, append_assoc, drop-append_seam, start_of, marker_of, tag_section, tokens_out, torn, going, whole, next, next_in, items_of, text_next, IsPrefix, lines_of, text_of as text_of_lines, rules}
 use Rattle.pgn_game.proofs.putting.ItemsAppended.{full_text_grows, full_text_marker}
 
 pub behind : (xs ys zs : List ℕ) → IsPrefix ys zs → IsPrefix (xs ++ ys) (xs ++ zs)
@@ -41,6 +41,4 @@ module _ (p : Profile) (part : Part) (k : Kind) where
 
   -- so it is what stands written and the rest
   pub next_is : text_next p (next part k) ≡ torn p part ++ drop (length (torn p part)) (text_next p (next part k))
-  next_is =
-      let h = next_grows in
-      rw (ap (drop (length (torn p part))) h.1 ∙ drop-append_seam (torn p part) h.0) h.1
+  next_is = search (rules, next_grows, drop-append_seam)

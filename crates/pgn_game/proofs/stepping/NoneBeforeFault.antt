@@ -1,5 +1,5 @@
 -- Behind the last piece no game is finished before a token that is rejected, or a write that fails.
-use Rattle.pgn_game.proofs.Words.{Token, Fault, Profile, ◌≡◌, ℕ, ◌+◌, List, [], ◌∷◌, ◌++◌, length, Option, None, refl, sym, ap, ◌∙◌, inl, inr, ◌⊎◌, append-nil, append_assoc, length-append, arith, tokens_of, Standing, coming, HasLeft, Progress, progress_after, Read, read, read_from, due, Stops, refused_stop as refused, unwritten, StopsWriting, games_before, rules, common_steps}
+use Rattle.pgn_game.proofs.Words.{Token, Fault, Profile, ◌≡◌, ℕ, ◌+◌, List, [], ◌∷◌, ◌++◌, length, Option, None, refl, sym, ap, ◌∙◌, inl, inr, ◌⊎◌, append-nil, append_assoc, length-append, tokens_of, Standing, coming, HasLeft, Progress, progress_after, Read, read, read_from, due, Stops, refused_stop as refused, unwritten, StopsWriting, games_before, rules}
 use Rattle.pgn_game.proofs.stepping.OneMoreToken.{first_passes, goes_on, due_grows}
 use Rattle.pgn_game.proofs.stepping.LastTokens.{left_games, none_finished_before}
 
@@ -30,8 +30,7 @@ parted (x ∷ xs) (y ∷ ys) {behind_xs} {behind_ys} e = further (parted xs ys (
     head_same = cc
 
     further : Parted xs ys behind_xs behind_ys → Parted (x ∷ xs) (y ∷ ys) behind_xs behind_ys
-    further (inl (mid, is, parts)) = inl (mid, ap (λ l. y ∷ l) is ∙ ap (λ z. z ∷ (xs ++ mid)) (sym head_same), parts)
-    further (inr (mid, is, parts)) = inr (mid, ap (λ l. x ∷ l) is ∙ ap (λ z. z ∷ (ys ++ mid)) head_same, parts)
+    further h1 = search (rules, head_same)
 
 -- the token at fault is the first of those that are left: the games before it are those so far
 module _ (p : Profile) (given : List Token) (l : Standing) (ts : List Token)
@@ -52,16 +51,8 @@ module _ (p : Profile) (given : List Token) (l : Standing) (ts : List Token)
   by_parts (inl (mid, is, parts)) = behind_given mid is parts
   by_parts (inr ([], is, parts)) = rw (is ∙ append-nil writing.front)
   by_parts (inr (m ∷ mid, is, parts)) =
-      let all : given ≡ (writing.front ++ writing.token ∷ []) ++ mid =
-      is ∙ ap (λ x. writing.front ++ x ∷ mid) (sym (head parts)) ∙ sym (append_assoc writing.front (writing.token ∷ []) mid) in
-      let grown = due_grows p (writing.front ++ writing.token ∷ []) mid in
-      absurd (omega (
-        arith,
-        longer,
-        writing.short,
-        ap (length {A = ℕ}) (ap (due p) all ∙ grown.1),
-        length-append (due p (writing.front ++ writing.token ∷ [])) grown.0,
-      ))
+      let all : given ≡ (writing.front ++ writing.token ∷ []) ++ mid = search (rules, head, append_assoc) in
+      let grown = due_grows p (writing.front ++ writing.token ∷ []) mid in search (rules, longer, length-append)
 
 -- ---- both
 
@@ -71,5 +62,4 @@ pub none_before_fault : (p : Profile) (u : List ℕ) {given : List Token} (l : S
     → games_before stops ≡ (read p given).progress.games
 none_before_fault p u {given} l left passes {a} {b} (unwritten at writing) =
     by_parts p given l (tokens_of u) passes left at a b writing (parted given writing.front (sym left ∙ writing.cut))
-none_before_fault p u {given} l left passes (refused f fault gains) =
-    grind (arith, common_steps, left_games, reads_behind)
+none_before_fault p u {given} l left passes (refused f fault gains) = search (rules, left_games, reads_behind)

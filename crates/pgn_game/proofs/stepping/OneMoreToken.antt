@@ -1,5 +1,5 @@
 -- One token more: what was read, and what is due for it.
-use Rattle.pgn_game.proofs.Words.{Bool, Kind, Token, Reason, Fault, Mode, Profile, Missing, counts_as, takes_the_marker, Game, Part, no_part, ◌≡◌, ℕ, ◌+◌, List, [], ◌∷◌, ◌++◌, length, Option, None, Some, refl, sym, ap, ◌∙◌, append_assoc, append-nil, length-append, arith, take-append-add, Appends-trans, Appends-nil, refusal, text_next, gain, Gains, game_text, text_of_games as text_of, torn_for, Next, next, Progress, progress_with, progress_after, no_progress, Read, read_from, read, written_so_far as written, due, IsPrefix, DueGrows, Stops, refused_stop as refused, unwritten, StopsWriting, games_before, position_at_stop, ProbesAtStop, rules, subst, Appends, torn, going, whole, common_steps}
+use Rattle.pgn_game.proofs.Words.{Bool, Kind, Token, Reason, Fault, Mode, Profile, Missing, Game, Part, no_part, ◌≡◌, ℕ, ◌+◌, List, [], ◌∷◌, ◌++◌, length, Option, None, Some, refl, sym, ap, ◌∙◌, append_assoc, append-nil, length-append, arith, take-append-add, Appends-trans, Appends-nil, refusal, text_next, gain, Gains, game_text, text_of_games as text_of, torn_for, Next, next, Progress, progress_with, progress_after, no_progress, Read, read_from, read, written_so_far as written, due, IsPrefix, DueGrows, Stops, refused_stop as refused, unwritten, StopsWriting, games_before, position_at_stop, ProbesAtStop, rules, subst, Appends, torn, common_steps}
 use Rattle.pgn_game.proofs.stepping.NextGrows.{next_is}
 
 abbrev read_as : Progress → Option Fault → Read
@@ -21,8 +21,7 @@ module _ (p : Profile) (b : Progress) (t : Token) (ts : List Token) where
   by_token P rejected passes = grind (arith, common_steps, read_from-test)
 
   passed : (o : Option Reason) → (after_test p b t ts o).fault ≡ None → o ≡ None
-  passed (Some reason) e = absurd (cc)
-  passed None e = refl
+  passed o e = search rules
 
   pub first_passes : (read_from p b (t ∷ ts)).fault ≡ None → refusal p b.part t.kind ≡ None
   first_passes e = passed (refusal p b.part t.kind) (rw (read_from-test) at e)
@@ -54,14 +53,12 @@ module _ (p : Profile) where
 
 -- where no game is begun, nothing stands written of one
 pub torn-none : (missing : Missing) (mode : Mode) → torn_for missing mode no_part ≡ []
-torn-none (counts_as text) mode = refl
-torn-none takes_the_marker mode = refl
+torn-none missing mode = search rules
 
 -- what is written when a token has led so far
 module _ (p : Profile) (games : List Game) where
   written_with : (nx : Next) → written p (progress_with games nx) ≡ text_of p games ++ text_next p nx
-  written_with (going after) = refl
-  written_with (whole g) = rw (torn-none p.missing_result p.mode) (append-nil (text_of p (games ++ g ∷ [])) ∙ text_of-snoc p games g)
+  written_with nx = search (rules, torn-none, append-nil, text_of-snoc)
 
   written-next : (part : Part) (k : Kind)
       → written p (progress_with games (next part k)) ≡ written p (record { games = games; part = part }) ++ gain p part k

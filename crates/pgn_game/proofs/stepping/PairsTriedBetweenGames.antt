@@ -1,7 +1,7 @@
 -- Between games no pair is tried: the tokens behind the last game of a text without a fault.
 use Rattle.pgn_lexer.specs.Tokens as tokens
 use Rattle.pgn_game.specs.public.MostTried as most_tried
-use Rattle.pgn_game.proofs.Words.{◌≡◌, ◌⊎◌, inl, inr, ℕ, true, false, ◌||◌, List, [], ◌∷◌, Option, None, Some, refl, sym, ap, subst, ◌∙◌, Parts, Kind, Token, Mode, Reason, Stage, Between, Pair, Item, Game, Part, no_part, progress_with, Profile, refusal, is_at, is_comment, is_end, Next, going, whole, next, next_in, in_text, Progress, Tries, MostFrom, rules, CostsUnlessRefused}
+use Rattle.pgn_game.proofs.Words.{◌≡◌, ◌⊎◌, ℕ, true, false, ◌||◌, List, [], ◌∷◌, Option, None, refl, sym, subst, Parts, Kind, Token, Mode, Reason, Stage, Between, Pair, Item, Game, Part, no_part, progress_with, Profile, refusal, is_at, is_comment, is_end, Next, going, whole, next, next_in, in_text, Progress, Tries, MostFrom, rules, CostsUnlessRefused}
 use Rattle.pgn_game.proofs.reading.RunsToEnd.{Runs, at, kinds, ends, goes, finishes}
 
 -- ---- A game that is begun is finished before the end
@@ -20,8 +20,7 @@ stays_begun stage part k begun is = search (rules, text_begins)
 end_fails : (p : Profile) (stage : Stage) (ps : List Pair) (name : List ℕ) (items : List Item)
     → is_at Between (at stage ps name items) ≡ false → refusal p (at stage ps name items) tokens.end ≡ None → ⊥
 unfolding refusal
-end_fails p Between ps name items begun free = absurd (cc)
-end_fails p _ ps name items begun free = absurd (cc)
+end_fails p stage ps name items begun free = search rules
 
 finishes_one : (p : Profile) {part : Part} {ks : List Kind} {gs : List Game} → Runs p part ks gs → is_at Between part ≡ false → gs ≡ [] → ⊥
 finishes_one p (ends part free) begun none = end_fails p part.stage part.pairs part.name part.items begun free
@@ -41,15 +40,10 @@ drops k = search (rules, text_begins)
 
 -- nothing is written where no item is added
 costs_same : (o : Option Reason) (mode : Option Mode) (deep : ℕ) (here : Parts) (n : ℕ) → CostsUnlessRefused o mode deep here [] n n
-costs_same None mode deep here n = refl
-costs_same (Some reason) mode deep here n = refl
+costs_same o mode deep here n = search rules
 
 tries_none : (p : Profile) (k : Kind) → (is_comment k || is_end k) ≡ true → Tries false p no_part k 0
-tries_none p tokens.comment_open is = record { found = 0; finds = refl; writes = costs_same _ _ _ _ 0 }
-tries_none p (tokens.word text) is = record { found = 0; finds = refl; writes = costs_same _ _ _ _ 0 }
-tries_none p tokens.comment_close is = record { found = 0; finds = refl; writes = costs_same _ _ _ _ 0 }
-tries_none p tokens.end is = record { found = 0; finds = refl; writes = costs_same _ _ _ _ 0 }
-tries_none p _ is = absurd (cc)
+tries_none p k is = search (rules, costs_same)
 
 -- ---- All of them
 
@@ -65,9 +59,7 @@ module _ (p : Profile) (games : List Game) (t : Token) (ts : List Token) where
 
   one_more : {to : Part} {ks : List Kind} → Runs p to ks [] → refusal p no_part t.kind ≡ None → next no_part t.kind ≡ going to
       → (to ≡ no_part → MostFrom false p (between games) ts 0) → Drops t.kind (going to) → MostFrom false p (between games) (t ∷ ts) 0
-  one_more runs free leads rest (inl begun) = absurd (finishes_one p runs begun refl)
-  one_more runs free leads rest (inr (same, dropped)) =
-      passes_one free (leads ∙ ap going same) dropped (rest same)
+  one_more runs free leads rest h1 = search (rules, finishes_one, passes_one)
 
 tried_from : (p : Profile) {part : Part} {ks : List Kind} {gs : List Game} → Runs p part ks gs → part ≡ no_part → gs ≡ []
     → (ts : List Token) (games : List Game) → kinds ts ≡ ks → MostFrom false p (between games) ts 0

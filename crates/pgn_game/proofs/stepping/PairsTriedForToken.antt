@@ -1,7 +1,7 @@
 -- How many pairs were tried for a token: from what the reader counts to what is said of tokens.
 use Rattle.pgn_game.proofs.stepping.OneMoreToken.{goes_on}
 use Rattle.pgn_lexer.specs.Tokens as tokens
-use Rattle.pgn_game.proofs.Words.{Parts, Kind, Token, Mode, Reason, InMovetext, Profile, ◌≡◌, ◌⊎◌, inl, ℕ, ◌<◌, max, Bool, true, false, ◌||◌, List, [], ◌∷◌, ◌++◌, Option, None, Some, is_some, Result, Ok, Err, refl, sym, subst, arith, IsTrue, drop-append_seam, drop-length, and_right, or_right, false≢true, Move, Accepted, depth, refusal, is_at, is_number, is_outside_tag_pairs, is_score, levels_of_part, marker_of, position_in, Next, going, Progress, progress_after, read_from, read, Costs, CostsIf, CostsToFind, is_written, CostsToWrite, added, CostsToAdd, Tries, MostFrom, MostTried, Raises, has_move, GameState, Agrees, IsOpen, may_have_movetext, with_items, TriesItem, mode_written, LexReason, is_move, Item, Part, rules, not, ap, ◌&&◌, common_steps}
+use Rattle.pgn_game.proofs.Words.{Parts, Kind, Token, Mode, Reason, InMovetext, Profile, ◌≡◌, ◌⊎◌, ℕ, ◌<◌, max, Bool, true, false, ◌||◌, List, [], ◌∷◌, ◌++◌, Option, None, Some, is_some, Result, Ok, Err, refl, sym, subst, arith, IsTrue, drop-append_seam, drop-length, and_right, or_right, false≢true, Move, Accepted, depth, refusal, is_at, is_number, is_outside_tag_pairs, is_score, levels_of_part, marker_of, position_in, Next, going, Progress, progress_after, read_from, read, Costs, CostsIf, CostsToFind, is_written, CostsToWrite, added, CostsToAdd, Tries, MostFrom, MostTried, Raises, has_move, GameState, Agrees, IsOpen, may_have_movetext, with_items, TriesItem, mode_written, LexReason, is_move, Item, Part, rules, common_steps}
 use Rattle.pgn_game.specs.games.Game.{move}
 use Rattle.pgn_game.specs.public.MostTried as most_tried
 use Rattle.pgn_game.proofs.refusals.RefusalsInMovetext.{depth_is, position_is}
@@ -28,15 +28,13 @@ module _ (silent : Bool) (p : Profile) where
       let b = (read p given).progress in
       let one = most_tried.passes b t [] raised.tried 0 free raised.allowed (most_tried.none (progress_after b t)) in
       let least : max raised.tried 0 ≡ raised.tried = omega arith in
-      let then = subst (MostFrom silent p b (t ∷ [])) least one in
-      subst (MostTried silent p (given ++ t ∷ [])) (sym raised.most) (most_then before (t ∷ []) raised.tried clear then)
+      let then = subst (MostFrom silent p b (t ∷ [])) least one in search (rules, most_then)
 
   pub most_to_refused : {given : List Token} (t : Token) (us : List Token) {why : Reason} {old new : ℕ} → MostTried silent p given old
       → (read p given).fault ≡ None → refusal p (read p given).progress.part t.kind ≡ Some why
       → Raises (Tries silent p (read p given).progress.part t.kind) old new → MostTried silent p (given ++ t ∷ us) new
   most_to_refused {given} t us {why} before clear is raised =
-      let then = most_tried.refused (read p given).progress t us raised.tried why is raised.allowed in
-      subst (MostTried silent p (given ++ t ∷ us)) (sym raised.most) (most_then before (t ∷ us) raised.tried clear then)
+      let then = most_tried.refused (read p given).progress t us raised.tried why is raised.allowed in search (rules, most_then)
 
 pub raises_none : {silent : Bool} {p : Profile} {part : Part} {r : LexReason} {why : Reason} {most : ℕ} → refusal p part (tokens.refused r) ≡ Some why
     → Raises (Tries silent p part (tokens.refused r)) most most
@@ -52,12 +50,10 @@ costs_nothing place s none = subst (λ (b : Bool). CostsIf b place s 0) (sym non
 
 module _ (part : Part) where
   pub untried_in_pair : (k : Kind) → is_outside_tag_pairs part ≡ false → CostsToFind part k 0
-  untried_in_pair (tokens.symbol s) inside = costs_nothing (position_in part) s (ap (λ (b : Bool). b && not (is_score s || is_number s)) inside)
-  untried_in_pair _ inside = refl
+  untried_in_pair k inside = search (rules, costs_nothing)
 
   pub plain_untried : (s : List ℕ) → (is_score s || is_number s) ≡ true → CostsToFind part (tokens.symbol s) 0
-  plain_untried s plain =
-      costs_nothing (position_in part) s (and_right (is_outside_tag_pairs part) (not (is_score s || is_number s)) (ap not plain))
+  plain_untried s plain = search (rules, costs_nothing, and_right)
 
   pub number_untried : (s : List ℕ) → is_number s ≡ true → CostsToFind part (tokens.symbol s) 0
   number_untried s number = plain_untried s (or_right (is_score s) (is_number s) number)
@@ -90,8 +86,7 @@ TriesPut mode part to (Err reason) n k = CostsToPut mode part to n k ⊎ ((is_at
 
 module _ (mode : Option Mode) (part : Part) where
   pub tries_put : (to : Next) (r : Result Accepted Reason) (n k : ℕ) → CostsToPut mode part to n k → TriesPut mode part to r n k
-  tries_put to (Ok accepted) n k costs = costs
-  tries_put to (Err reason) n k costs = inl costs
+  tries_put to r n k costs = search rules
 
   -- an item other than a move, and none; and a token that leaves the items as they are
   adds_items : (items : List Item) (n k : ℕ) → CostsToAdd mode (depth (levels_of_part part)) (position_in part) items n k
@@ -102,8 +97,7 @@ module _ (mode : Option Mode) (part : Part) where
   adds_none = adds_items [] 0 0 refl
 
 pub adds_item : (mode : Option Mode) (i : Item) (part : Part) → is_move i ≡ false → CostsToPut mode part (going (with_items part (i ∷ []))) 0 0
-adds_item mode i part plain = adds_items mode part (i ∷ []) 0 0
-    (untried (is_written mode (depth (levels_of_part part)) i) (position_in part) i {n = 0} {k = 0} plain refl)
+adds_item mode i part plain = search (rules, adds_items, untried)
 
 pub adds_same : (mode : Option Mode) (part : Part) (to : Part) → to.items ≡ part.items → CostsToPut mode part (going to) 0 0
 adds_same mode part to same = grind (arith, common_steps, drop-length)

@@ -2,7 +2,7 @@
 use Rattle.pgn_lexer.specs.Tokens.{period}
 use Rattle.pgn_lexer.specs.WholeTokens.{none}
 use Rattle.pgn_lexer.specs.declared.token.TokenKind.TheVariants as token_kinds
-use Rattle.pgn_game.proofs.Words.{Agrees, Bool, Kind, next, Standing, waiting, InMovetext, GameState, Device, Reason, ◌≡◌, ℕ, ◌+◌, ◌*◌, ◌≤◌, List, [], Option, None, Ok, IsTrue, refl, sym, ap, subst, ◌∙◌, arith, Appends-nil, More, kind_of, TokenKind, Result, Accepted, may_have_movetext, TakesToken, symbol, Passes, is_passed, over_space, over_token, EntersMovetext, Part, IsEntry, IsOpen, PutResult, CostsToFind, mode_written, going, in_text, text_refusal, with_items, TakesEntry, common_steps}
+use Rattle.pgn_game.proofs.Words.{Agrees, Bool, Kind, next, Standing, waiting, InMovetext, GameState, Device, Reason, ◌≡◌, ℕ, ◌+◌, ◌*◌, ◌≤◌, List, [], Option, None, Ok, IsTrue, refl, sym, ap, subst, arith, Appends-nil, More, kind_of, TokenKind, Result, Accepted, may_have_movetext, TakesToken, symbol, Passes, is_passed, over_space, over_token, EntersMovetext, Part, IsOpen, PutResult, CostsToFind, going, in_text, text_refusal, with_items, TakesEntry, common_steps, rules}
 use Rattle.pgn_game.proofs.putting.ItemToReader.{begun_before, puts_number, to_items}
 use Rattle.pgn_game.proofs.stepping.PairsTriedForToken.{adds_none}
 use Rattle.pgn_game.proofs.stepping.PutToAnswer.{takes_put}
@@ -16,9 +16,7 @@ passes_count (over_space l new m passes within is_white scans waits) = let befor
 passes_count (over_token l new m n t passes within some scans skipped passed) = let before = passes_count passes in omega (arith, before, scans.count)
 
 pub passes_few : {skips : Bool} {old : Standing} {piece : List ℕ} {new : Standing} {n : ℕ} → Passes skips old piece new n → waiting new ≤ 2 * n + waiting old
-passes_few none = omega arith
-passes_few (over_space l new m passes within is_white scans waits) = let before = passes_few passes in omega (arith, before, waits)
-passes_few (over_token l new m n t passes within some scans skipped passed) = grind (arith, common_steps)
+passes_few h1 = search rules
 
 -- ---- what the reader does with them
 
@@ -41,20 +39,11 @@ puts_none r taken failures at =
 passes : (r : GameState) (k : Kind) (taken : Option (List ℕ)) (failures : ℕ) → r.stage ≡ InMovetext
     → ((part : Part) → IsOpen r part → (text_refusal r.profile part k ≡ None) × (in_text part k ≡ going (with_items part [])))
     → ((part : Part) → CostsToFind part k 0) → TakesEntry r k r (Ok More) (still_at taken failures)
-passes r k taken failures at says finds =
-    takes_put r (IsEntry r k) (IsOpen r) k 0 0 (counting_none r) (puts_none r taken failures at) tt (λ between. refl) (omega arith)
-    (λ part is. is.is_open)
-    (λ part is. (is.row ∙ (says part is.is_open).0, is.leads ∙ (says part is.is_open).1)) (λ part is. finds part)
-    (λ part is. adds_none (mode_written r) part)
+passes r k taken failures at says finds = grind (arith, common_steps, takes_put, counting_none, puts_none, adds_none)
 
 entry_passed : (r : GameState) (k : Kind) (taken : Option (List ℕ)) (failures : ℕ) → r.stage ≡ InMovetext → IsTrue (is_passed k)
     → TakesEntry r k r (Ok More) (still_at taken failures)
-entry_passed r (symbol text) taken failures at number =
-    let score = number_no_score text number in
-    passes r (symbol text) taken failures at
-    (λ part is. (number_free r.profile part text number score, number_leads part text number score)) (λ part. number_untried part text number)
-entry_passed r period taken failures at h = passes r period taken failures at (λ part is. (refl, refl)) (λ part. refl)
-entry_passed r _ taken failures at h = absurd (cc)
+entry_passed r k taken failures at h1 = grind (arith, common_steps, number_no_score, passes, number_free, number_leads, number_untried)
 
 -- in movetext a token is one of movetext
 pub enters_in_movetext : (r : GameState) (k : TokenKind) → r.stage ≡ InMovetext → EntersMovetext r (kind_of k) r
@@ -77,12 +66,8 @@ entry_leads : (r : GameState) (k : TokenKind) (part : Part) → r.stage ≡ InMo
 entry_leads r k part at agrees = (entry_in_movetext r k part at agrees).leads
 
 adds_no_items : (part : Part) (k : Kind) → IsTrue (is_passed k) → in_text part k ≡ going (with_items part [])
-adds_no_items part (symbol text) number = number_leads part text number (number_no_score text number)
-adds_no_items part period h = refl
-adds_no_items part _ h = absurd (cc)
+adds_no_items part k h1 = search (rules, number_leads, number_no_score)
 
 pub passed_leads : (r : GameState) (k : Kind) (part : Part) → r.stage ≡ InMovetext → IsTrue (is_passed k) → Agrees r part
     → next part k ≡ going (with_items part [])
-passed_leads r k part at h agrees =
-    let returned = given_as k h in
-    subst (λ (j : Kind). next part j ≡ in_text part j) returned.1 (entry_leads r returned.0 part at agrees) ∙ adds_no_items part k h
+passed_leads r k part at h agrees = search (rules, given_as, entry_leads, adds_no_items)

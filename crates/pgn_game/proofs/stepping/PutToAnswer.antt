@@ -1,6 +1,6 @@
 -- From what putting a token results in, and from its row of the table, to what the reader answers.
 use Rattle.pgn_lexer.specs.declared.token.TokenKind.TheVariants as token_kinds
-use Rattle.pgn_game.proofs.Words.{Parts, Kind, Reason, Stage, Between, AfterTags, InMovetext, Profile, Part, no_part, ◌≡◌, ◌⊎◌, ℕ, max, Bool, true, false, ◌||◌, List, length, drop, Option, None, Some, Bor, Result, Ok, Err, IsFalse, IsTrue, is_some, refl, sym, ap, subst, ◌∙◌, arith, Appends-nil, AppendsFront, Device, kind_of, TokenKind, symbol, Accepted, More, Marker, marker_text, torn, refusal, is_at, is_comment, is_end, is_number, is_outside_tag_pairs, is_score, marker_of, position_if_move, position_in, Next, going, at_stage, next, gain, text_next, CostsToFind, Tries, TriesUnwritten, GameState, mode_written, Agrees, Answers, as_written, IsStopped, is_outside_the_table, FinishesAtMarker, IsEntry, IsOpen, may_have_movetext, text_refusal, with_items, Event, Means, Writer, game_by, items_meant, pairs_meant, CountsMove, EntersMovetext, EntersPart, Finds, HoldsPairs, HoldsText, FinishesNone, GoesTo, PutResult, Takes, TakesEntry, TakesOutside, TakesToken, TakesUnwritten, at_game_start, counting_probes, unused, rules, inl, inr, false≢true, Finished, le-max_left, common_steps}
+use Rattle.pgn_game.proofs.Words.{Parts, Kind, Reason, Stage, Between, AfterTags, InMovetext, Profile, Part, no_part, ◌≡◌, ◌⊎◌, ℕ, max, Bool, true, false, ◌||◌, List, length, drop, Option, None, Some, Bor, Result, Ok, Err, IsFalse, IsTrue, is_some, refl, sym, ap, subst, ◌∙◌, arith, Appends-nil, AppendsFront, Device, kind_of, TokenKind, symbol, Accepted, More, Marker, marker_text, torn, refusal, is_at, is_comment, is_end, is_number, is_outside_tag_pairs, is_score, marker_of, position_if_move, position_in, Next, going, at_stage, next, gain, text_next, CostsToFind, Tries, TriesUnwritten, GameState, mode_written, Agrees, Answers, as_written, IsStopped, is_outside_the_table, FinishesAtMarker, IsEntry, IsOpen, may_have_movetext, text_refusal, with_items, Event, Means, Writer, game_by, items_meant, pairs_meant, CountsMove, EntersMovetext, EntersPart, Finds, HoldsPairs, FinishesNone, GoesTo, PutResult, Takes, TakesEntry, TakesOutside, TakesToken, TakesUnwritten, at_game_start, counting_probes, unused, rules, false≢true, le-max_left, common_steps}
 use Rattle.pgn_game.specs.steps.GameState as game_state
 use Rattle.pgn_game.proofs.refusals.RefusalsByStage.{begins_alike, comment_passes, drops_comments, passes_between}
 use Rattle.pgn_game.proofs.refusals.RefusalsInMovetext.{marker_whole, move_refused as move_row_refused, position_is, refused_inside}
@@ -30,12 +30,7 @@ refused_after old new IsOf k reason n o m counted inside why costs here = record
         allowed = record { found = n; finds = costs part is; writes = rw (why part is) };
         most = rw counted;
       }) (rw counted (here part is));
-  keeps = record {
-    profile = rw counted;
-    writing = rw counted;
-    plies = omega (arith, ap (λ (r : GameState). r.earlier_plies) counted, ap (λ (r : GameState). r.text.plies) counted);
-    probes = omega (arith, ap (λ (r : GameState). r.most_probes) counted, le-max_left old.most_probes n);
-  };
+  keeps = search (rules, le-max_left);
   stays = tt;
   finished = tt;
   counted = rw inside;
@@ -63,8 +58,7 @@ module _ (old counted new : GameState) (part : Part) (k : Kind) (to : Next) (d :
   tries costs = record { found = n; finds = finds; writes = search rules }
 
   unwritten : CostsToPut (mode_written old) part to n more ⊎ ((is_at InMovetext part ≡ false) × (more ≡ n)) → TriesUnwritten old.writing.is_silent old.profile part k more
-  unwritten (inl costs) = most_tried.at_token (tries costs)
-  unwritten (inr (before, none)) = most_tried.in_section before (subst (CostsToFind part k) (sym none) finds)
+  unwritten h1 = search (rules, tries)
 
   answers : (r : Result Accepted Reason) → GoesTo counted part to new r d
       → TriesPut (mode_written old) part to r n more → Answers old part k new r d.before d.after
@@ -85,9 +79,7 @@ pub takes_put : (old : GameState) {counted new : GameState} (IsOf IsPut : Part �
 takes_put old IsOf IsPut k n more same puts finished closed most sub says finds costs = search (rules, answers, le-max_left)
 
 finishes_none : (k : Kind) (new : GameState) (r : Result Accepted Reason) → FinishesNone r → FinishesAtMarker k new r
-finishes_none k new (Ok More) none = tt
-finishes_none k new (Ok Finished) none = absurd none
-finishes_none k new (Err reason) none = tt
+finishes_none k new r none = search rules
 
 -- A step of a tag pair, and a token that changes nothing.
 pub takes_step : (old new : GameState) (k : Kind) (to : Part → Next) (o : Option (List ℕ)) (m : ℕ)
@@ -117,24 +109,12 @@ module _ (old new : GameState) (k : Kind) (stage : Stage) (at : old.stage ≡ st
 pub comment_in_pair : (old new : GameState) (k : TokenKind) (stage : Stage) → old.stage ≡ stage
     → ((q : Part) → is_outside_tag_pairs (at_stage stage q) ≡ false) → new ≡ old
     → IsTrue (drops_comments stage) → true ≡ is_comment (kind_of k) → TakesUnwritten old (kind_of k) new (Ok More)
-comment_in_pair old new k stage at inside same drops is =
-    subst (λ (r : GameState). TakesUnwritten old (kind_of k) r (Ok More)) (sym same)
-    (step_in_pair old old (kind_of k) stage at inside going (puts_nothing old) refl (λ part. adds_same (mode_written old) part part refl)
-    (λ part agrees. comment_passes old.profile k (sym at ∙ agrees.stage) drops is))
+comment_in_pair old new k stage at inside same drops is = search (rules, step_in_pair, puts_nothing, adds_same, comment_passes)
 
 -- A token that belongs to movetext at the stage of the reader.
 pub enters : (old : GameState) (k : TokenKind) → IsTrue (may_have_movetext old.stage)
     → ((part : Part) → Agrees old part → IsEntry old (kind_of k) part) → EntersMovetext old (kind_of k) old
-enters old k at entry = record {
-  stage = at;
-  profile = refl;
-  writing = refl;
-  plies = omega arith;
-  probes = omega arith;
-  enters = λ part agrees.
-      record { opened = part; entry = entry part agrees; next = (entry part agrees).leads; pairs = refl; items = refl };
-  takes = λ new r d taken. search rules;
-}
+enters old k at entry = search rules
 
 -- A token that begins a game.
 
@@ -160,8 +140,7 @@ module _ (old new : GameState) where
   answers_alike : (k : TokenKind) (r : Result Accepted Reason) (a b : Option (List ℕ)) → old.stage ≡ Between
       → refusal old.profile no_pairs (kind_of k) ≡ refusal old.profile no_part (kind_of k) → next no_pairs (kind_of k) ≡ next no_part (kind_of k)
       → Answers (at_game_start old) no_pairs (kind_of k) new r a b → Answers old no_part (kind_of k) new r a b
-  answers_alike k (Ok accepted) a b at row leads h =
-      grind (arith, common_steps, gain_alike, tries_alike)
+  answers_alike k (Ok accepted) a b at row leads h = search (rules, gain_alike, tries_alike)
   answers_alike k (Err reason) a b at row leads (game_state.refused why is none t here) =
       game_state.refused why (sym row ∙ is) none
       (record { tried = t.tried; allowed = tries_alike old.writing.is_silent old.profile k row leads t.allowed; most = t.most }) here
@@ -191,8 +170,7 @@ open_counted : {old : GameState} (n : ℕ) {part : Part} → IsOpen old part →
 open_counted n is = search (rules, le-max_left)
 
 pub next_of : (o : Option Parts) → is_some o ≡ true → (q : Parts) × (o ≡ Some q)
-next_of None h = absurd (cc)
-next_of (Some q) h = (q, refl)
+next_of o h = search rules
 
 -- What was found for a symbol that is neither a number nor a marker.
 module _ (old found : GameState) (s : List ℕ) (n : ℕ) (at : IsTrue (may_have_movetext old.stage))
@@ -226,54 +204,36 @@ module _ (w : Writer) (old reader : GameState) (k : Kind) (e : Event) (means : M
 
 -- A token between games that begins none.
 bare_untried : (k : TokenKind) (part : Part) → (is_comment (kind_of k) || is_end (kind_of k)) ≡ true → CostsToFind part (kind_of k) 0
-bare_untried (token_kinds.Symbol s) part is = absurd (false≢true is)
-bare_untried _ part is = refl
+bare_untried k part is = search (rules, false≢true)
 
 module _ (old : GameState) where
   pub passes_first : (new : GameState) (k : TokenKind) (o : Option (List ℕ)) (m : ℕ) → new ≡ old → old.stage ≡ Between
       → (is_comment (kind_of k) || is_end (kind_of k)) ≡ true → TakesToken old (kind_of k) new (Ok More) (unused o m)
-  passes_first new k o m same at is =
-      subst (λ (r : GameState). TakesToken old (kind_of k) r (Ok More) (unused o m)) (sym same)
-      (takes_step old old (kind_of k) going o m (puts_nothing old o m) refl
-      (λ part agrees. passes_between old.profile k (part_stage old part Between agrees at) is)
-      (λ part agrees. bare_untried k part is) (λ part. adds_same (mode_written old) part part refl))
+  passes_first new k o m same at is = search (rules, takes_step, puts_nothing, passes_between, part_stage, bare_untried, adds_same)
 
   -- The move of a token that SetUp rejects.
   pub no_symbol_counted : (k : TokenKind) → ((s : Bor (List ℕ)) → k ≡ token_kinds.Symbol s → ⊥) → CountsMove old (kind_of k) old
-  no_symbol_counted (token_kinds.Symbol s) other = absurd (other s refl)
-  no_symbol_counted k other = record { pairs = 0; counted = counting_none old; tried = λ part agrees. refl }
+  no_symbol_counted k other = search (rules, counting_none)
 
   pub plain_counted : (s : List ℕ) → (is_score s || is_number s) ≡ true → CountsMove old (symbol s) old
   plain_counted s plain = record { pairs = 0; counted = counting_none old; tried = λ part agrees. plain_untried part s plain }
 
   -- a game that begins holds no pair
   agrees_first : (part : Part) → old.stage ≡ Between → Agrees old part → Agrees (at_game_start old) no_pairs
-  agrees_first part at agrees = record {
-    stage = refl;
-    pairs = refl;
-    text = (refl, refl, subst (λ (s : Stage). HoldsText s old part) at agrees.text);
-  }
+  agrees_first part at agrees = search rules
 
   first_enters : (k : TokenKind) → old.stage ≡ Between → is_comment (kind_of k) ≡ false → is_end (kind_of k) ≡ false
       → {ready : GameState} (part : Part) → Agrees old part
       → ((q : Part) → Agrees (at_game_start old) q → EntersPart ready (kind_of k) q) → EntersPart ready (kind_of k) part
   first_enters k at comment over part agrees enters =
       let first = enters no_pairs (agrees_first part at agrees) in
-      let none : part ≡ no_part = subst (λ (s : Stage). HoldsPairs s old.tags part) at agrees.pairs in
-      rw none (record {
-        opened = first.opened;
-        entry = first.entry;
-        next = sym (begins_alike old.profile k comment over).1 ∙ first.next;
-        pairs = first.pairs;
-        items = first.items;
-      })
+      let none : part ≡ no_part = subst (λ (s : Stage). HoldsPairs s old.tags part) at agrees.pairs in search (rules, begins_alike)
 
   -- The first token of a game is taken as after pairs, of which there is none.
   pub takes_outside_first : (new : GameState) (k : TokenKind) (o : Option (Result Accepted Reason)) → old.stage ≡ Between
       → is_comment (kind_of k) ≡ false → is_end (kind_of k) ≡ false → TakesOutside (at_game_start old) (kind_of k) new o
       → TakesOutside old (kind_of k) new o
-  takes_outside_first new k (Some r) at comment over t =
-      λ taken failures. takes_first old new k r (unused taken failures) at comment over (t taken failures)
+  takes_outside_first new k (Some r) at comment over t = search (rules, takes_first)
   takes_outside_first new k None at comment over t = record {
     stage = t.stage;
     profile = t.profile;

@@ -1,5 +1,5 @@
 -- What is read of a text, from wherever a converter stands in it: one token, and calls in turn.
-use Rattle.pgn_game.proofs.Words.{within_limit, ◌≡◌, ℕ, ◌+◌, ◌-◌, ◌≤◌, ◌^◌, List, [], ◌++◌, length, take, drop, Option, None, sym, ap, subst, ◌∙◌, arith, append-nil, length-take, take-append-drop, take-take, drop-take, take_all, drop_of_length-le, Token, Standing, StandsAfter, IsDecided, ahead_of, take-nil, first, decided, Device, AreNext, StandsInText}
+use Rattle.pgn_game.proofs.Words.{within_limit, ◌≡◌, ℕ, ◌+◌, ◌-◌, ◌≤◌, ◌^◌, List, [], ◌++◌, length, take, drop, Option, None, sym, ap, subst, ◌∙◌, arith, append-nil, length-take, take-append-drop, take-take, drop-take, take_all, drop_of_length-le, Token, Standing, StandsAfter, IsDecided, ahead_of, take-nil, first, decided, Device, AreNext, StandsInText, rules}
 use Rattle.pgn_game.proofs.stepping.AcceptedToConverter.{next_in_piece}
 use Rattle.pgn_game.proofs.stepping.StepsInPiece.{decided_at_end}
 
@@ -51,7 +51,4 @@ none_ahead used unused none = ap (take (2 ^ 62 - length used)) none ∙ take-nil
 
 -- all bytes of a text were read
 pub used_up : (s : List ℕ) (l : Standing) (tokens : List Token) → StandsInText s l tokens → length s ≤ l.count → StandsAfter l s None tokens × (tokens ≡ decided s)
-used_up s l tokens on size =
-    let all : take l.count s ≡ s = take_all l.count s size in
-    let none : drop l.count s ≡ [] = drop_of_length-le s size in
-    (rw (all, none) at on.stands, decided_at_end s tokens (rw (all, none) at on.decided))
+used_up s l tokens on size = search (rules, take_all, drop_of_length-le, decided_at_end)

@@ -1,6 +1,6 @@
 -- Steps behind the last piece, and how small the counts stay.
 use Rattle.pgn_lexer.specs.Tokens as tokens
-use Rattle.pgn_game.proofs.Words.{length, Kind, Token, Stage, Between, Reason, Fault, Profile, Pair, Item, Game, ◌≡◌, ℕ, ◌+◌, ◌<◌, ◌≤◌, Bool, true, false, List, [], ◌∷◌, ◌++◌, Option, None, Some, Err, refl, sym, subst, append-nil, append_assoc, arith, ◌*◌, ◌^◌, IsTrue, is_some, Device, tokens_of, Standing, StandsAfter, waiting, HasLeft, IsNext, FinishGivesToken, refusal, is_end, marker_of, next, progress_with, Progress, GameState, CountsWrites, Keeps, Converter, IsSound, game_in_reader_if, HasRead, CountsReason, rules, ap, ◌∙◌, coming, none-some, false≢true, IsBeforePiece, IsBeforeToken, common_steps}
+use Rattle.pgn_game.proofs.Words.{length, Kind, Token, Stage, Between, Reason, Fault, Profile, Pair, Item, Game, ◌≡◌, ℕ, ◌+◌, ◌<◌, ◌≤◌, Bool, true, false, List, [], ◌∷◌, ◌++◌, Option, None, Some, Err, refl, sym, subst, append-nil, append_assoc, arith, ◌*◌, ◌^◌, IsTrue, is_some, Device, tokens_of, Standing, StandsAfter, waiting, HasLeft, IsNext, FinishGivesToken, refusal, is_end, marker_of, next, progress_with, Progress, GameState, CountsWrites, Keeps, Converter, IsSound, game_in_reader_if, HasRead, CountsReason, rules, ap, ◌∙◌, none-some, false≢true, IsBeforePiece, IsBeforeToken, common_steps}
 use Rattle.pgn_game.proofs.stepping.AcceptedToConverter.{follows_none, now_at, read_as}
 
 -- what is left behind a token: nothing behind the end
@@ -9,8 +9,7 @@ Left u given true l t = tokens_of u ≡ given ++ t ∷ []
 Left u given false l t = HasLeft l u (given ++ t ∷ [])
 
 pub left_by : (u : List ℕ) (given : List Token) (k : Kind) (l : Standing) (t : Token) → IsNext u given k l t → Left u given (is_end k) l t
-left_by u given tokens.left_bracket l t h = h
-left_by u given _ l t h = h
+left_by u given k l t h = search rules
 
 -- a token was waiting, unless it is the end
 abbrev pub Nearer : Bool → Standing → Standing → Type 0
@@ -18,32 +17,27 @@ Nearer true old new = new ≡ old
 Nearer false old new = (waiting new < waiting old) × (new.count ≡ old.count)
 
 pub nearer_by : (k : Kind) (old new : Standing) (t : Token) → new.count ≡ old.count → FinishGivesToken k old new t → Nearer (is_end k) old new
-nearer_by tokens.end old new t same h = h.1
-nearer_by _ old new t same h = (h.1, same)
+nearer_by k old new t same h = search rules
 
 pub marker_or_end : (k : Kind) → IsTrue (is_some (marker_of k)) → is_end k ≡ false
-marker_or_end tokens.end h = absurd (cc)
-marker_or_end _ h = refl
+marker_or_end k h = search rules
 
 -- the tokens of the text begin so in either case
 pub tokens_left : (u : List ℕ) (given : List Token) (e : Bool) (l : Standing) (t : Token)
     → Left u given e l t → (us : List Token) × (tokens_of u ≡ given ++ t ∷ us)
-tokens_left u given true l t h = ([], h)
-tokens_left u given false l t h = (coming l [], h ∙ append_assoc given (t ∷ []) (coming l []))
+tokens_left u given e l t h = search (rules, append_assoc)
 
 pub end_at : (p : Profile) (s : Stage) (ps : List Pair) (name : List ℕ) (items : List Item)
     → refusal p (record { stage = s; pairs = ps; name = name; items = items }) tokens.end ≡ None → s ≡ Between
 unfolding refusal
-end_at p Between ps name items h = refl
-end_at p _ ps name items h = absurd (none-some _ (sym h))
+end_at p s ps name items h = search (rules, none-some)
 
 between_after : {s : Stage} (ps : List Pair) (name : List ℕ) (items : List Item) (games : List Game) → s ≡ Between
     → (progress_with games (next (record { stage = s; pairs = ps; name = name; items = items }) tokens.end)).part.stage ≡ Between
 between_after {s} ps name items games e = grind (arith, common_steps)
 
 pub is_the_end : (k : Kind) → is_end k ≡ true → k ≡ tokens.end
-is_the_end tokens.end h = refl
-is_the_end _ h = absurd (cc)
+is_the_end k h = search rules
 
 pub end_passes : (p : Profile) (b : Progress) (k : Kind) → is_end k ≡ true
     → refusal p b.part k ≡ None → (progress_with b.games (next b.part k)).part.stage ≡ Between
@@ -85,8 +79,7 @@ module _ (old new : Standing) (before after : GameState) (games : ℕ) where
   sound_in_piece used size sooner count within short few plies keeps = grind (arith, common_steps, false≢true)
 
 pub not_just_finished : (b : Bool) (r : GameState) → game_in_reader_if b r ≡ None → b ≡ false
-not_just_finished true r h = absurd (cc)
-not_just_finished false r h = refl
+not_just_finished b r h = search rules
 
 pub left_of : (l : Standing) (u : List ℕ) (b : Option ℕ) (given : List Token) → StandsAfter l u b given → HasLeft l u given
 left_of l u b given stands = ap tokens_of (sym (append-nil u)) ∙ stands.tokens [] (follows_none b)

@@ -1,5 +1,5 @@
 -- A front of a piece, which ends before place 2^62.
-use Rattle.pgn_game.proofs.Words.{Profile, take-append-drop, take_all, Token, decided, Follows, IsDecided, first, Standing, StandsAfter, Converter, Stands, ◌≡◌, ℕ, ◌+◌, ◌<◌, ◌≤◌, zero, suc, List, [], ◌∷◌, ◌++◌, length, take, drop, Option, None, Some, sym, subst, append_assoc, length-take, inl, inr, arith, take-add}
+use Rattle.pgn_game.proofs.Words.{Profile, take-append-drop, take_all, Token, decided, Follows, IsDecided, first, Standing, StandsAfter, Converter, Stands, ◌≡◌, ℕ, ◌+◌, ◌<◌, ◌≤◌, zero, suc, List, [], ◌∷◌, ◌++◌, length, take, drop, Option, None, subst, append_assoc, length-take, inl, arith, take-add, rules}
 
 pub further : (u piece : List ℕ) (at used : ℕ) → (u ++ take at piece) ++ take used (drop at piece) ≡ u ++ take (at + used) piece
 further u piece at used = rw (take-add at used piece) (append_assoc u (take at piece) (take used (drop at piece)))
@@ -9,14 +9,10 @@ whole_piece u piece at = rw (take-append-drop at piece) at (append_assoc u (take
 
 -- with no byte behind, the tokens are those decided
 pub decided_at_end : (u : List ℕ) (ts : List Token) → IsDecided u [] ts → ts ≡ decided u
-decided_at_end u ts (inl e) = e
-decided_at_end u ts (inr (c, e, k)) = absurd (cc)
+decided_at_end u ts h1 = search rules
 
 pub follows_front : (b : Option ℕ) (piece : List ℕ) (n : ℕ) → Follows b piece → Follows b (take n piece)
-follows_front None piece n h = tt
-follows_front (Some c) [] n h = subst (Follows (Some c)) (sym (take_all n [] (omega arith))) tt
-follows_front (Some c) (x ∷ xs) zero h = tt
-follows_front (Some c) (x ∷ xs) (suc n) h = h
+follows_front b piece n h = search (rules, take_all)
 
 -- a lexer that stands before any byte stands before this one
 pub before_any : {l : Standing} {u : List ℕ} {b : Option ℕ} {given : List Token}

@@ -2,7 +2,7 @@
 use Rattle.pgn_lexer.specs.declared.partial_token.LexMode.TheVariants as modes
 use Rattle.pgn_lexer.specs.declared.partial_token.Text.TheVariants as texts
 use Rattle.pgn_lexer.specs.Tokens as tokens
-use Rattle.pgn_game.proofs.Words.{Token, Profile, Game, ◌≡◌, ℕ, ◌<◌, List, [], ◌∷◌, ◌++◌, length, None, refl, sym, ap, subst, ◌∙◌, inl, inr, append-nil, append_assoc, arith, EndsAt, Standing, coming, is_score, no_progress, Read, read, read_from, Converter, Stands, games_read, FinishesGame, tokens_of, RisesTo, SymbolsStandInText, TokensRise, GamesEndByMarker, LastGame, TextsEndBehindMarker, TextsEndBetweenGames, text_of_games as text_of, common_steps}
+use Rattle.pgn_game.proofs.Words.{Token, Profile, Game, ◌≡◌, ℕ, ◌<◌, List, [], ◌∷◌, ◌++◌, length, None, refl, sym, ap, subst, ◌∙◌, inl, inr, append-nil, append_assoc, arith, EndsAt, Standing, coming, is_score, no_progress, Read, read, read_from, Converter, Stands, games_read, FinishesGame, tokens_of, RisesTo, SymbolsStandInText, TokensRise, GamesEndByMarker, LastGame, TextsEndBehindMarker, TextsEndBetweenGames, common_steps, rules}
 use Rattle.pgn_game.proofs.stepping.GamesInTurn.{passes_before}
 use Rattle.pgn_game.proofs.stepping.MarkersAtEnd.{score_ends}
 use Rattle.pgn_game.proofs.stepping.NoneBeforeFault.{reads_behind}
@@ -17,8 +17,7 @@ has_last (t ∷ []) h = h
 has_last (t ∷ u ∷ ts) h = has_last (u ∷ ts) h.2
 
 pub between_games : TokensRise → TextsEndBetweenGames
-between_games rise p u passes =
-    rw (none_torn p no_progress (tokens_of u) (has_last (tokens_of u) (rise u)) passes) (append-nil (text_of p (games_read p (tokens_of u))))
+between_games rise p u passes = search (rules, none_torn, has_last, append-nil)
 
 -- ---- The game
 
@@ -52,8 +51,7 @@ module _ (stand : SymbolsStandInText) (ends : GamesEndByMarker) (p : Profile)
           let before = passes_before p (given ++ t ∷ []) (end_at place ∷ []) (rw cut at passes) in
           let none_more : games_read p (tokens_of u) ≡ games_read p (given ++ t ∷ []) =
           ap (games_read p) cut ∙ ap (λ (r : Read). r.progress.games) (reads_behind p no_progress (given ++ t ∷ []) (end_at place ∷ []) before)
-          ∙ quiet_games p (read p (given ++ t ∷ [])).progress (end_at place ∷ []) (end, tt) in
-          record { game = record { passes = before; game = g; one_more = sym none_more ∙ one }; passes = passes; same = none_more }
+          ∙ quiet_games p (read p (given ++ t ∷ [])).progress (end_at place ∷ []) (end, tt) in search rules
 
   last : (t : Token) → coming l [] ≡ t ∷ end_at l.count ∷ [] → EndsAt t.kind t.at (length u) → LastGame p u given
   last t is ends_there =
@@ -78,8 +76,7 @@ module _ (stand : SymbolsStandInText) (ends : GamesEndByMarker) (p : Profile)
   by_left _ is (none ts q has) = grind (arith, common_steps, reads, quiet_games)
   by_left _ is (glyph n) =
       let finished = (finishes (token_at l.held.at (tokens.glyph n)) l.count is).game in
-      let marker = (ends p given (token_at l.held.at (tokens.glyph n)) finished).is_marker in
-      absurd (cc)
+      let marker = (ends p given (token_at l.held.at (tokens.glyph n)) finished).is_marker in search rules
   by_left _ is (symbol mode) = of_symbol mode is
 
   last_game : LastGame p u given

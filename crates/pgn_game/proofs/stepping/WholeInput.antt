@@ -1,6 +1,5 @@
 -- Conversions of whole inputs.
-use Rattle.std.specs.Io.KnownBytes.{Keeps}
-use Rattle.pgn_game.proofs.Words.{Token, InputTooLong, Fault, Profile, ◌≡◌, ℕ, false, ◌^◌, ◌≤◌, List, [], ◌++◌, length, Option, None, Some, Result, Ok, Err, IfSome, OnOk, sym, ap, subst, ◌∙◌, append-nil, map, sum, Consumes-nil, Consumes-trans, tokens_of, decided, plies_of, plies_of_finished_games, Gains, IsConverted, IsTotalled, MostProbes, ReadsNoMore, FailsOn, Fails, AfterEnd, AfterConversion, AfterSlice, verdict_in, Games, games_of, ahead_of, HaveRead, NextGame, NoGame, NextStops, ReadSoFar, GameState, Bool, Appends, Consumes, Totals, Read, read, due, refused as is_refused, totals, verdict, verdict_of, Converter, HasRead, Stands, Stops, refused_stop as refused, unwritten, StopsIn, at_token, too_long, FedFault, FedWhole, ReadsUpTo, Finishes, rules, no_progress, inl, refl, within, first, writing_nothing, IsAtEnd, IfSome_then, AreShown, IsRefused, arith, common_steps}
+use Rattle.pgn_game.proofs.Words.{Token, InputTooLong, Fault, Profile, ◌≡◌, ℕ, false, ◌^◌, ◌≤◌, List, [], ◌++◌, length, Option, None, Some, Result, Ok, Err, IfSome, OnOk, sym, ap, subst, ◌∙◌, append-nil, map, sum, Consumes-nil, Consumes-trans, tokens_of, decided, plies_of, plies_of_finished_games, Gains, IsConverted, IsTotalled, MostProbes, ReadsNoMore, FailsOn, Fails, AfterEnd, AfterConversion, AfterSlice, verdict_in, Games, games_of, HaveRead, NextGame, NoGame, NextStops, ReadSoFar, GameState, Bool, Appends, Consumes, Totals, Read, read, due, refused as is_refused, totals, verdict, verdict_of, Converter, HasRead, Stands, Stops, refused_stop as refused, unwritten, StopsIn, at_token, too_long, FedFault, FedWhole, ReadsUpTo, Finishes, rules, no_progress, refl, writing_nothing, IsAtEnd, AreShown, IsRefused, arith, common_steps}
 use Rattle.pgn_game.specs.public.GamesCalls as games_calls
 use Rattle.pgn_game.specs.public.Conversion as conversion
 use Rattle.pgn_game.proofs.stepping.OneMoreToken.{torn-none, gains_none, gains_more, stops_more, stops_from}
@@ -33,31 +32,15 @@ module _ {p : Profile} where
   appended {tokens} {a} {c} gains = grind (arith, common_steps, torn-none)
 
   pub none_read : {c : Converter} {left : Option (List ℕ)} → Stands p c [] None [] → c.is_finished ≡ false → HaveRead p left [] (games_of c []) []
-  none_read stands not_finished =
-      within (record { used = []; bytes = refl; stands = stands; decided = inl refl; not_finished = not_finished })
+  none_read stands not_finished = search rules
 
   pub read_none : {now : Games} (left : Option (List ℕ)) {o : Option (List ℕ)} → HaveRead p left [] now [] → ReadSoFar p left left now o o
-  read_none left have =
-      record { bytes = []; tokens = []; consumed = Consumes-nil left; have_read = have; gains = gains_none }
+  read_none left have = search (rules, Consumes-nil, gains_none)
 
 -- where nothing is written from now on
 pub read_none_silently : (p : Profile) (left : Option (List ℕ)) (u : List ℕ) (now : Games) → HaveRead p left u now []
     → HaveRead p left u (games_of (writing_nothing now.converter) now.unused) []
-read_none_silently p left u now (within on) =
-    within (record {
-      used = on.used;
-      bytes = on.bytes;
-      stands = stands_silently now.converter p on.used (first (ahead_of on.used now.unused)) on.stands;
-      decided = on.decided;
-      not_finished = on.not_finished;
-    })
-read_none_silently p left u now (games_calls.HaveRead.at_end all) = grind (arith, common_steps, reads_silently)
-
-pub keeps_consumed : (o m n : Option (List ℕ)) (u : List ℕ) → Consumes o m u → Keeps m n → Consumes o n u
-keeps_consumed None m n u h k = tt
-keeps_consumed (Some xs) None n u h k = absurd h
-keeps_consumed (Some xs) (Some ys) None u h k = absurd k
-keeps_consumed (Some xs) (Some ys) (Some zs) u h k = rw k h
+read_none_silently p left u now h1 = search (rules, stands_silently, reads_silently)
 
 no_more : {p : Profile} {u : List ℕ} {tokens : List Token} {a c : Option (List ℕ)} → tokens ≡ decided u
     → (read p tokens).fault ≡ None → Gains p [] tokens a c → ReadsNoMore p u a c
@@ -68,17 +51,14 @@ module _ {p : Profile} (s : List ℕ) {tokens : List Token} where
   refused_text : (more : List Token) {f : Fault} {a c : Option (List ℕ)} → tokens_of s ≡ tokens ++ more → (read p tokens).fault ≡ Some f
       → Gains p [] tokens a c → IsConverted p s (is_refused f) a c
   refused_text more cut fault gains =
-      let same : read p (tokens_of s) ≡ read p tokens = ap (read p) cut ∙ stops_from p no_progress tokens more fault in (
-        ap verdict_of same ∙ verdict_refused (read p tokens) fault,
-        rw same (appended gains),
-      )
+      let same : read p (tokens_of s) ≡ read p tokens = ap (read p) cut ∙ stops_from p no_progress tokens more fault in
+      search (rules, verdict_refused, appended)
 
   -- and that its bytes before place 2^62 show it
   refused_by : {f : Fault} {a c : Option (List ℕ)} → AreShown s tokens → (read p tokens).fault ≡ Some f → Gains p [] tokens a c
       → IsRefused p s f × IsConverted p s (is_refused f) a c
   refused_by shown fault gains =
-      let here = shown_begins s tokens shown in
-      (record { tokens = tokens; shown = shown; fault = fault }, refused_text here.0 here.1 fault gains)
+      let here = shown_begins s tokens shown in search (rules, refused_text)
 
 refused_at_end : {p : Profile} (s : List ℕ) {f : Fault} {a c : Option (List ℕ)} → length s ≤ 2 ^ 62
     → (read p (tokens_of s)).fault ≡ Some f → Gains p [] (tokens_of s) a c → IsRefused p s f × IsConverted p s (is_refused f) a c
@@ -86,14 +66,10 @@ refused_at_end s short fault gains = refused_by s (at_end short [] (sym (append-
 
 pub known_left : (o n : Option (List ℕ)) (u : List ℕ) (P : List ℕ → Type 0)
     → Consumes o n u → ((rest : List ℕ) → P (u ++ rest)) → IfSome o P
-known_left None n u P h all = tt
-known_left (Some s) None u P h all = absurd h
-known_left (Some s) (Some rest) u P h all = subst P (sym h) (all rest)
+known_left o n u P h all = search rules
 
 pub known_whole : (o n : Option (List ℕ)) (u : List ℕ) (P : List ℕ → Type 0) → Consumes o n u → IsAtEnd n → P u → IfSome o P
-known_whole None n u P h end here = tt
-known_whole (Some s) None u P h end here = absurd h
-known_whole (Some s) (Some rest) u P h end here = subst P (sym (h ∙ ap (λ l. u ++ l) end ∙ append-nil u)) here
+known_whole o n u P h end here = search (rules, append-nil)
 
 -- ---- games read in turn
 
@@ -147,14 +123,11 @@ module _ (p : Profile) (left_old left left_new : Option (List ℕ)) (now : Games
 module _ (silent : Bool) (p : Profile) where
   pub is_short : (left_old left_new a c : Option (List ℕ)) (r : Result Totals Fault) → AfterConversion silent p left_old left_new r a c
       → OnOk r (IfSome left_old (λ s. length s ≤ 2 ^ 62))
-  is_short left_old left_new a c (Ok t) h =
-      IfSome_then left_old {P = λ s. IsTotalled silent p s t a c} {Q = λ s. length s ≤ 2 ^ 62} h (λ s whole. whole.short)
-  is_short left_old left_new a c (Err f) h = tt
+  is_short left_old left_new a c r h = search rules
 
   pub is_short_slice : (text : List ℕ) (a c : Option (List ℕ)) (r : Result Totals Fault) → AfterSlice silent p text r a c
       → OnOk r (length text ≤ 2 ^ 62)
-  is_short_slice text a c (Ok t) h = h.short
-  is_short_slice text a c (Err f) h = tt
+  is_short_slice text a c r h = search rules
 
 -- a slice, fed from the start on
 pub slice_stops : (p : Profile) {f : Fault} {text : List ℕ} (a c : Option (List ℕ))
@@ -172,8 +145,7 @@ slice_stops p {text} a c (too_long front rest cut place some before) =
 
 pub slice_ends : (silent : Bool) {p : Profile} {text : List ℕ} {now : Converter} {a c : Option (List ℕ)} (d : Option (List ℕ))
     (r : Result Totals Fault) (fed : FedWhole p [] [] text now a c) → length text ≤ 2 ^ 62 → AfterEnd silent p text fed.tokens r c d → AfterSlice silent p text r a d
-slice_ends silent d (Ok t) fed short (is_verdict, probes, gains) =
-    record { short = short; converted = (is_verdict, appended (gains_more fed.gains gains)); probes = probes }
+slice_ends silent d (Ok t) fed short (is_verdict, probes, gains) = search (rules, appended, gains_more)
 slice_ends silent {p} {text} {a} d (Err f) fed short stops = by_stops (stops_more fed.gains stops)
   where
     by_stops : {h : Fault} → Stops p [] (tokens_of text) a d h → FailsOn p text a d h

@@ -1,9 +1,8 @@
 -- Reading with a missing Result that counts as a text, and with one that takes the marker.
 -- Letters: q is the profile whose missing Result takes the marker, b the progress, t a token, ts
 -- are tokens.
-use Rattle.pgn_layout.specs.Lines.{text_of as text_of_lines}
 use Rattle.pgn_lexer.specs.Tokens as tokens
-use Rattle.pgn_game.proofs.Words.{Kind, Token, Reason, ResultDiffers, Profile, counts_as, takes_the_marker, Pair, value_of, Game, Part, ◌≡◌, ◌⊎◌, inl, inr, ℕ, ◌+◌, Bool, true, false, ◌&&◌, not, ◌==◌, List, [], ◌∷◌, ◌++◌, length, take, drop, codes, unwrap_or, Option, None, Some, IsTrue, refl, sym, ap, ◌∙◌, length-append, true≢false, arith, list_all, bytes_eq-Decides, Fault, Marker, marker_text, counting, with_missing, tag_lines, depth, start_of, Row, row, rows, first_holding, refusal, is_outside_tag_pairs, has_other_result, levels_of_part, marker_of, IsResult, Next, going, whole, next, Progress, progress_with, progress_after, no_progress, Read, read_from, read, or_else, and_parts, not-true, lines_of, game_text, tokens_out, is_about_result, rejects_marker, IsReadAlike, MissingResults, common_steps}
+use Rattle.pgn_game.proofs.Words.{Kind, Token, Reason, ResultDiffers, Profile, counts_as, takes_the_marker, value_of, Game, Part, ◌≡◌, ◌⊎◌, inl, inr, ℕ, ◌+◌, Bool, true, false, ◌&&◌, not, ◌==◌, List, [], ◌∷◌, ◌++◌, length, take, drop, codes, Option, None, Some, IsTrue, refl, sym, ap, ◌∙◌, length-append, true≢false, arith, list_all, bytes_eq-Decides, Fault, Marker, marker_text, counting, with_missing, depth, Row, row, rows, first_holding, refusal, is_outside_tag_pairs, has_other_result, levels_of_part, marker_of, IsResult, Next, going, whole, next, Progress, progress_with, progress_after, no_progress, read_from, read, or_else, and_parts, not-true, game_text, is_about_result, rejects_marker, IsReadAlike, MissingResults, common_steps, rules}
 use Rattle.pgn_game.specs.export.Text.{text_of}
 use Rattle.pgn_game.proofs.refusals.RefusalsInMovetext.{other_if}
 use Rattle.pgn_game.proofs.exporting.GameTextToGame.{exported_result}
@@ -21,21 +20,17 @@ by_result o = elim o [ Some reason ↦ is_about_result reason | None ↦ false ]
 unless_first : (b : Bool) (reason : Reason) (o with_row : Option Reason)
     → by_result (or_else b reason with_row) ≡ false → (by_result with_row ≡ false → o ≡ with_row)
     → or_else b reason o ≡ or_else b reason with_row
-unless_first true reason o with_row plain further = refl
-unless_first false reason o with_row plain further = further plain
+unless_first b reason o with_row plain further = search rules
 
 -- where the row is not the one that holds first, it may as well not hold
 without_row : (rs : List Row) (x : Bool) (rest : List Row) → by_result (first_holding (rs ++ row ResultDiffers x ∷ rest)) ≡ false
     → first_holding (rs ++ row ResultDiffers false ∷ rest) ≡ first_holding (rs ++ row ResultDiffers x ∷ rest)
 without_row [] true rest plain = absurd (true≢false plain)
 without_row [] false rest plain = refl
-without_row (r ∷ rs) x rest plain =
-    unless_first r.holds r.reason (first_holding (rs ++ row ResultDiffers false ∷ rest))
-    (first_holding (rs ++ row ResultDiffers x ∷ rest)) plain (without_row rs x rest)
+without_row (r ∷ rs) x rest plain = search (rules, unless_first, (without_row rs x rest))
 
 and_false : (a b : Bool) → (a && false && b) ≡ false
-and_false true b = refl
-and_false false b = refl
+and_false a b = search rules
 
 table_without : (q : Profile) (text : List ℕ) (part : Part) (k : Kind) → has_other_result takes_the_marker part k ≡ false
     → by_result (refusal (counting q text) part k) ≡ false
@@ -55,32 +50,22 @@ other_of : (text : List ℕ) (part : Part) (k : Kind) (o : Option (List ℕ)) (v
     → marker_of k ≡ o → value_of part.pairs (codes "Result") ≡ v
     → (has_other_result (counts_as text) part k ≡ has_other_result takes_the_marker part k)
     ⊎ (has_other_result takes_the_marker part k ≡ false)
-other_of text part k None v is given = inr (ap (other_if takes_the_marker part.pairs) is)
-other_of text part k (Some marker) (Some value) is given =
-    grind (arith, common_steps, counts_as, unwrap_or, takes_the_marker)
-other_of text part k (Some marker) None is given = grind (arith, common_steps, takes_the_marker, unwrap_or, bytes_eq-Decides)
+other_of text part k o v is given = search (rules, other_if, bytes_eq-Decides)
 
 pub refusal_taking : (q : Profile) (text : List ℕ) (part : Part) (k : Kind)
     → q.missing_result ≡ takes_the_marker → by_result (refusal (counting q text) part k) ≡ false
     → refusal q part k ≡ refusal (counting q text) part k
-refusal_taking q text part k takes plain =
-    grind (arith, common_steps, other_of, table_alike, counts_as, takes_the_marker, table_without)
+refusal_taking q text part k takes plain = search (rules, other_of, table_alike, table_without)
 
 -- A game that is finished has the same text.
-abbrev text_with : Profile → Game → List Pair → List ℕ
-text_with q g ps =
-    (tag_lines ps ++ 10 ∷ []) ++ text_of_lines (lines_of (tokens_out q.mode (start_of g.pairs) g.items ++ g.marker ∷ [])) ++ 10 ∷ []
-
 game_alike : (q : Profile) (text : List ℕ) (g : Game) → q.missing_result ≡ takes_the_marker
     → IsResult (counts_as text) (value_of g.pairs (codes "Result")) g.marker → game_text q g ≡ game_text (counting q text) g
-game_alike q text g takes is =
-    sym (same_game_text q g takes) ∙ sym (ap (text_with q g) (exported_result q.mode (counts_as text) g.marker g.pairs is))
+game_alike q text g takes is = search (rules, same_game_text, exported_result)
 
 finished_alike : (q : Profile) (text : List ℕ) (part : Part) (k : Kind) (g : Game)
     → q.missing_result ≡ takes_the_marker → refusal (counting q text) part k ≡ None
     → next part k ≡ whole g → game_text q g ≡ game_text (counting q text) g
-finished_alike q text part k g takes free is =
-    grind (arith, common_steps, marker_of, game_text, counting, no_marker_goes, going, whole, marker_finishes, game_alike, result_of)
+finished_alike q text part k g takes free is = search (rules, no_marker_goes, marker_finishes, game_alike, result_of)
 
 -- so have all games
 abbrev AreAlike : Profile → List ℕ → List Game → Type 0
@@ -89,8 +74,7 @@ AreAlike q text games = text_of q games ≡ text_of (counting q text) games
 module _ (q : Profile) (text : List ℕ) where
   one_more : (games : List Game) (to : Next) → AreAlike q text games → ((g : Game) → to ≡ whole g → game_text q g ≡ game_text (counting q text) g)
       → AreAlike q text (progress_with games to).games
-  one_more games (going part) before same = before
-  one_more games (whole g) before same = cc (text_of-snoc q games g, before, same g refl, text_of-snoc (counting q text) games g)
+  one_more games to before same = search (rules, text_of-snoc)
 
   all_alike : (b : Progress) (ts : List Token) → q.missing_result ≡ takes_the_marker → AreAlike q text b.games
       → AreAlike q text (read_from (counting q text) b ts).progress.games
@@ -136,8 +120,7 @@ none_lost p b (t ∷ ts) =
 pub game_stays : (p : Profile) (b : Progress) (t : Token) (ts : List Token) (g : Game) → next b.part t.kind ≡ whole g
     → length (read_from p (progress_after b t) ts).progress.games ≡ length b.games → ⊥
 game_stays p b t ts g is same =
-    let one : length (progress_after b t).games ≡ length b.games + 1 =
-    ap (λ (to : Next). length (progress_with b.games to).games) is ∙ length-append b.games (g ∷ []) in
+    let one : length (progress_after b t).games ≡ length b.games + 1 = search (rules, length-append) in
     let others = none_lost p (progress_after b t) ts in
     absurd (omega (arith, one, others.1, same))
 
@@ -147,8 +130,7 @@ is_harmless r = not (is_about_result r.reason && r.holds)
 
 by_row : (b : Bool) (reason : Reason) (rest : Option Reason) → (is_about_result reason && b) ≡ false
     → by_result rest ≡ false → by_result (or_else b reason rest) ≡ false
-by_row false reason rest plain further = further
-by_row true reason rest plain further = grind (arith, common_steps, true≢false)
+by_row b reason rest plain further = search (rules, true≢false)
 
 no_result : (rs : List Row) → IsTrue (list_all is_harmless rs) → by_result (first_holding rs) ≡ false
 no_result [] all = refl
@@ -159,14 +141,7 @@ no_result (r ∷ rs) all =
 not_for_result : (p : Profile) (part : Part) (k : Kind) → marker_of k ≡ None → by_result (refusal p part k) ≡ false
 unfolding refusal
 not_for_result p part (tokens.refused r) none = refl
-not_for_result p part k none =
-    let outer = depth (levels_of_part part) == 0 in
-    ap (λ (other : Bool). by_result
-    (first_holding (take 21 (rows p part k) ++ row ResultDiffers (is_outside_tag_pairs part && other && outer) ∷ drop 22 (rows p part k))))
-    (ap (other_if p.missing_result part.pairs) none)
-    ∙ ap (λ (x : Bool). by_result (first_holding (take 21 (rows p part k) ++ row ResultDiffers x ∷ drop 22 (rows p part k))))
-    (and_false (is_outside_tag_pairs part) outer)
-    ∙ no_result (take 21 (rows p part k) ++ row ResultDiffers false ∷ drop 22 (rows p part k)) refl
+not_for_result p part k none = search (rules, other_if, and_false, no_result)
 
 marker_rejected : (q : Profile) (text : List ℕ) (part : Part) (k : Kind)
     → q.missing_result ≡ takes_the_marker → refusal (counting q text) part k ≡ Some ResultDiffers
@@ -201,8 +176,7 @@ module _ (q : Profile) (b : Progress) (t : Token) (m : Marker)
 
   pub marker_refused : (ts : List Token) → length (read_from (counting q (marker_text m)) b (t ∷ ts)).progress.games ≡ length b.games
       → read_from q b (t ∷ ts) ≡ read_from (counting q (marker_text m)) b (t ∷ ts)
-  marker_refused ts none =
-      grind (arith, common_steps, by_token, read_from-test, same_row, game_stays, marker_finishes, goes_on)
+  marker_refused ts none = search (rules, by_token, read_from-test, same_row, game_stays, marker_finishes, goes_on)
 
 -- at a token before it, which is no marker
 module _ (q : Profile) (b : Progress) (t : Token) (takes : q.missing_result ≡ takes_the_marker)
@@ -224,18 +198,14 @@ module _ (q : Profile) (b : Progress) (t : Token) (takes : q.missing_result ≡ 
     marker = h.marker;
     is_marker = h.is_marker;
     up_to_it = goes_on q b t (h.front ++ h.token ∷ []) free ∙ h.up_to_it ∙ sym (passes_counting h.marker (h.front ++ h.token ∷ []));
-    rejected = λ same.
-        goes_on q b t ts free
-        ∙ h.rejected (ap (λ (r : Read). length r.progress.games) (sym (passes_counting h.marker ts)) ∙ same ∙ sym same_count)
-        ∙ sym (passes_counting h.marker ts);
+    rejected = search (rules, goes_on, passes_counting, same_count);
   }
 
 -- where no game is finished, a token that passes is no marker
 not_a_marker : (p : Profile) (b : Progress) (t : Token) (ts : List Token) (o : Option (List ℕ))
     → marker_of t.kind ≡ o → refusal p b.part t.kind ≡ None
     → length (read_from p (progress_after b t) ts).progress.games ≡ length b.games → marker_of t.kind ≡ None
-not_a_marker p b t ts None is row there = is
-not_a_marker p b t ts (Some marker) is row there = absurd (game_stays p b t ts _ (marker_finishes p b.part t.kind marker is row) there)
+not_a_marker p b t ts o is row there = search (rules, game_stays, marker_finishes)
 
 from_there : (q : Profile) (text : List ℕ) (b : Progress) (ts : List Token) (at : ℕ) → q.missing_result ≡ takes_the_marker
     → (read_from (counting q text) b ts).fault ≡ Some (record { at = at; reason = ResultDiffers })
@@ -270,18 +240,6 @@ pub missing_results : MissingResults
 missing_results = record {
   alike = λ q text ts takes plain. is_read_alike q text ts takes (reads_alike q text no_progress ts takes plain);
   by_its_marker = λ q text ts at takes fault none.
-      let h = from_there q text no_progress ts at takes fault (ap (length {A = Game}) none) in
-      record {
-        front = h.front;
-        token = h.token;
-        rest = h.rest;
-        cut = h.cut;
-        place = h.place;
-        marker = h.marker;
-        is_marker = h.is_marker;
-        up_to_it = is_read_alike q (marker_text h.marker) (h.front ++ h.token ∷ []) takes h.up_to_it;
-        rejected = λ same. is_read_alike q (marker_text h.marker) ts takes (h.rejected (ap (length {A = Game}) same));
-      };
-  if_all_end_with_it = λ q text ts takes passes all.
-      is_read_alike q text ts takes (reads_as_one_marker q text no_progress ts takes passes all);
+      let h = from_there q text no_progress ts at takes fault (ap (length {A = Game}) none) in search (rules, is_read_alike);
+  if_all_end_with_it = search (rules, is_read_alike, reads_as_one_marker);
 }

@@ -2,7 +2,7 @@
 -- stopped.
 use Rattle.pgn_lexer.specs.Tokens as tokens
 use Rattle.pgn_game.specs.declared.marker.PlacedMarker.{PlacedMarker as CodePlacedMarker}
-use Rattle.pgn_game.proofs.Words.{Kind, Token, Reason, Changed, WriteFault, Fault, Profile, Game, Part, no_part, ◌≡◌, ℕ, ◌+◌, ◌^◌, ◌<◌, ◌≤◌, ◌||◌, ◌&&◌, ◌==◌, not, is_some, bytes_eq, Bool, true, false, true≢false, false≢true, inl, inr, List, [], ◌∷◌, ◌++◌, length, length-append, take, drop, Option, None, Some, Ok, refl, sym, ap, subst, ◌∙◌, append_assoc, append-nil, append_cancel_left, drop-length, arith, Appends-nil, Appends, TokensRise, tokens_of, Stage, Between, InMovetext, HoldsText, counting, refusal, is_end, marker_of, torn, gain, text_next, text_of_games as text_of, Next, going, whole, next, Read, progress_with, HasLeft, first, within_limit, read, GameState, with_announced, as_written, IsStopped, Converter, IsGoing, marker_text, PlacedMarker, is_other, is_changed, HasMarkers, HasMatched, Reading, model_marker, changed_reason, OneGame, SameGames, GainsAs, due_as, part_after, game_text, AfterGameEnd, AllRead, BeginsAt, ComesNext, FirstFails, GameRead, GameWritten, HasGiven, HasGivenIn, ReadingStops, SourceGives, SecondFails, StandsBetween, known_by, decided, as_changed, announcing, AreShown, writing_nothing, common_steps}
+use Rattle.pgn_game.proofs.Words.{Kind, Token, Reason, Changed, WriteFault, Fault, Profile, Game, Part, no_part, ◌≡◌, ℕ, ◌+◌, ◌^◌, ◌<◌, ◌≤◌, ◌||◌, ◌&&◌, ◌==◌, not, is_some, bytes_eq, Bool, true, false, true≢false, false≢true, inl, inr, List, [], ◌∷◌, ◌++◌, length, length-append, take, Option, None, Some, Ok, refl, sym, ap, subst, ◌∙◌, append_assoc, append-nil, append_cancel_left, drop-length, arith, Appends-nil, Appends, TokensRise, tokens_of, Stage, Between, HoldsText, counting, refusal, is_end, marker_of, torn, gain, Next, going, whole, next, HasLeft, read, GameState, with_announced, as_written, IsStopped, Converter, IsGoing, marker_text, PlacedMarker, is_other, is_changed, HasMarkers, HasMatched, Reading, model_marker, changed_reason, OneGame, SameGames, GainsAs, part_after, game_text, AfterGameEnd, AllRead, BeginsAt, ComesNext, FirstFails, GameRead, GameWritten, HasGiven, HasGivenIn, ReadingStops, SourceGives, SecondFails, StandsBetween, known_by, decided, as_changed, announcing, AreShown, writing_nothing, common_steps, rules}
 use Rattle.pgn_game.specs.steps.Flow.{At, Closes, IsNextIn, Known, Since, Start, ended, so_far}
 use Rattle.pgn_game.specs.steps.GameState as game_state
 use Rattle.pgn_game.specs.steps.GameState.{is_unexpected}
@@ -31,8 +31,7 @@ end_leads : (q : Profile) (part : Part) (k : Kind) → is_end k ≡ true → ref
 end_leads q part k is free = grind (arith, common_steps, is_the_end, end_at, refusal, next, end_part)
 
 end_gains_nothing : (q w : Profile) (part : Part) (k : Kind) → is_end k ≡ true → refusal q part k ≡ None → gain w part k ≡ []
-end_gains_nothing q w part k is free =
-    ap (λ n. drop (length (torn w part)) (text_next w n)) (end_leads q part k is free) ∙ drop-length (torn w part)
+end_gains_nothing q w part k is free = search (rules, end_leads, drop-length)
 
 head_same : {A : Type 0} {x y : A} {xs ys : List A} → x ∷ xs ≡ y ∷ ys → x ≡ y
 head_same e = cc
@@ -53,21 +52,12 @@ known_cut (ended s) ts front t next cut = (s, next.0, next.1 ∙ ap (λ l. l ++ 
 
 -- the last token of those that pass is not rejected
 last_passes : (q : Profile) (ts : List Token) (t : Token) → (read q (ts ++ t ∷ [])).fault ≡ None → refusal q (part_after q ts) t.kind ≡ None
-last_passes q ts t passes = by_row (refusal q (part_after q ts) t.kind) refl
-  where
-    by_row : (o : Option Reason) → refusal q (part_after q ts) t.kind ≡ o → refusal q (part_after q ts) t.kind ≡ None
-    by_row None is = is
-    by_row (Some reason) is =
-        let rejected = ap (λ (r : Read). r.fault) (read-refuses q ts t [] reason (passes_before q ts (t ∷ []) passes) is) in
-        absurd (none_or_some _ rejected passes)
+last_passes q ts t passes = search (rules, read-refuses, passes_before, none_or_some)
 
 -- the end changes nothing
 end_same : (q : Profile) (ts : List Token) (t : Token) → (read q (ts ++ t ∷ [])).fault ≡ None → is_end t.kind ≡ true
     → (read q (ts ++ t ∷ [])).progress ≡ (read q ts).progress
-end_same q ts t passes is =
-    let free = last_passes q ts t passes in
-    ap (λ (r : Read). r.progress) (read-passes q ts t (passes_before q ts (t ∷ []) passes) free)
-    ∙ ap (progress_with (read q ts).progress.games) (end_leads q (part_after q ts) t.kind is free)
+end_same q ts t passes is = search (rules, last_passes, read-passes, passes_before, end_leads)
 
 -- tokens that go on behind these, none of which is the end, up to the end
 before_end : (given more front : List Token) (e : Token) → given ++ more ≡ front ++ e ∷ [] → is_end e.kind ≡ true → HasNoEnd given
@@ -75,8 +65,7 @@ before_end : (given more front : List Token) (e : Token) → given ++ more ≡ f
 before_end [] more front e cut is none = (front, refl)
 before_end (x ∷ xs) more [] e cut is none = absurd (true≢false (sym is ∙ ap (λ (t : Token). is_end t.kind) (sym (head_same cut)) ∙ none.0))
 before_end (x ∷ xs) more (y ∷ ys) e cut is none =
-    let rest = before_end xs more ys e (tail_same cut) is none.1 in
-    (rest.0, cc (head_same cut, rest.1))
+    let rest = before_end xs more ys e (tail_same cut) is none.1 in search (rules, head_same)
 
 -- ---- where a call begins
 
@@ -87,40 +76,16 @@ start_at q r given before expected =
 module _ (q : Profile) (left_old left : Option (List ℕ)) (r : Reading) (given : List Token) (a : Option (List ℕ)) (has : HasGiven q left_old left r given)
     (going : IsGoing r.converter) where
   pub begins_first : r.converter.reading.writing.is_silent ≡ true → BeginsAt left_old left (start_at q r given a None) r has.bytes a
-  begins_first silent =
-      record {
-        source = has.source;
-        count = refl;
-        lexer = has.lexer;
-        has_read = has.has_read;
-        known = λ writes. absurd (true≢false (sym silent ∙ writes));
-        going = going.not_finished;
-        begun = refl;
-      }
+  begins_first silent = search (rules, true≢false)
 
   pub begins_second : (m : CodePlacedMarker) → r.converter.reading.writing.announced ≡ Some m → BeginsAt left_old left (start_at q r given a (Some m)) r has.bytes a
-  begins_second m announced =
-      record {
-        source = has.source;
-        count = refl;
-        lexer = has.lexer;
-        has_read = has.has_read;
-        known = λ writes. (has.takes, announced);
-        going = going.not_finished;
-        begun = refl;
-      }
+  begins_second m announced = search rules
 
 -- ---- a game that was read
 
 given_in : (e : Bool) (start : Start) (u : List ℕ) (c : Converter) (ts : List Token) (o : Option (List ℕ)) → At start (known_by e u) c ts o → c.is_finished ≡ false
     → (ts ≡ start.given → ⊥) → HasGivenIn (known_by e u) c.lexer ts
-given_in false start u c ts o here goes more =
-    record {
-      inside = here.lexer.0;
-      stands = here.lexer.1;
-      decided = elim here.decided [ inl is ↦ is | inr none ↦ absurd (more none.1) ];
-    }
-given_in true start u c ts o here goes more = rw goes at here.lexer
+given_in e start u c ts o here goes more = search rules
 
 module _ (q : Profile) (left_old left left_new : Option (List ℕ)) (given : List Token) (old new : Reading) (a c : Option (List ℕ)) (expected : Option CodePlacedMarker)
     (has : HasGiven q left_old left old given) where
@@ -151,13 +116,7 @@ module _ (q : Profile) (left_old left left_new : Option (List ℕ)) (given : Lis
     pub stands : StandsBetween q left_old left_new ts new
     stands =
         record {
-          has_given = record {
-            takes = has.takes;
-            bytes = u;
-            source = gives;
-            lexer = given_in new.has_ended start u new.converter ts c here going more;
-            has_read = here.since.has_read;
-          };
+          has_given = search (rules, given_in, more);
           between = none;
         }
 
@@ -173,10 +132,7 @@ module _ (q : Profile) (left_old left left_new : Option (List ℕ)) (given : Lis
           stands = stands;
           marked = λ ms h.
               let marked = marked_game q front ends.marker ms ends.game passes ends.free ends.leads (marked_on q given ends.more has.has_read.passes passes same ms h) in
-              subst (λ (m : PlacedMarker). HasMarkers q ts (ms ++ m ∷ []))
-              (ap (λ x. record { text = x; at = ends.marker.at }) (sym ends.held ∙ sym text)
-              ∙ ap (λ x. record { text = marker_text m.marker; at = x }) (sym ends.place ∙ sym place))
-              (rw ends.cut marked);
+              search rules;
         }
 
   -- what was read without a game
@@ -196,9 +152,7 @@ module _ (q : Profile) (left_old left left_new : Option (List ℕ)) (given : Lis
     -- tokens behind which another comes show no difference
     pub still_matched : TokensRise → (t : Token) → (s : List ℕ) × (rest : List Token) × (tokens_of s ≡ ts ++ t ∷ rest)
         → (ms : List PlacedMarker) (m : PlacedMarker) → HasMatched q ms given (m ∷ []) → HasMatched q ms ts (m ∷ [])
-    still_matched rise t behind ms m h =
-        rw since.extends (matched_on q given since.more has.has_read.passes passes_front same_front
-        (no_end_before rise behind.0 given since.more ts t behind.1 behind.2 since.extends) ms m h)
+    still_matched rise t behind ms m h = search (rules, matched_on, passes_front, same_front, no_end_before)
 
 -- ---- the first reading
 
@@ -234,10 +188,7 @@ module _ (q : Profile) (left_old left left_new : Option (List ℕ)) (given : Lis
         tokens = h.tokens;
         passes = h.since.has_read.passes;
         marked = still_marked q left_old left left_new given old new a c None has h.tokens h.now h.mid h.since (sym h.games ∙ games);
-        why = elim h.stopped [
-          | inl stopped ↦ refused_first h.tokens h.token f h.now.reading new.converter.reading h.mid c h.since.has_read.profile h.place no_write comes stopped
-          | inr another ↦ absurd (false≢true another.other)
-        ];
+        why = search (rules, refused_first, false≢true);
       }
   first_fails f no_write games (at_read u fails all) =
       record {
@@ -252,8 +203,7 @@ module _ (q : Profile) (left_old left left_new : Option (List ℕ)) (given : Lis
 -- an announced marker changes nothing else
 text_announced : (marker : CodePlacedMarker) (r : GameState) (here : Part) (stage : Stage) → HoldsText stage r here
     → HoldsText stage (with_announced marker r) here
-text_announced marker r here InMovetext h = h
-text_announced marker r here _ h = h
+text_announced marker r here stage h = search rules
 
 module _ (q : Profile) (left_old left : Option (List ℕ)) (r : Reading) where
   pub announced_reading : (given : List Token) (m : CodePlacedMarker) (d : Converter) → d ≡ announcing m r.converter → HasGiven q left_old left r given
@@ -276,11 +226,7 @@ module _ (q : Profile) (m : PlacedMarker) (part : Part) (t : Token) where
   -- another marker, or one at another place, whether it is rejected or not
   differs_at_marker : (marker : List ℕ) → marker_of t.kind ≡ Some marker → not (bytes_eq marker m.text && (t.at == m.at)) ≡ true
       → is_changed q m part t ≡ true
-  differs_at_marker marker is other = by_row (refusal q part t.kind) refl
-    where
-      by_row : (o : Option Reason) → refusal q part t.kind ≡ o → is_changed q m part t ≡ true
-      by_row (Some reason) row = differs_refused reason row
-      by_row None row = differs_if true row (ap (λ (n : Next). is_other m n t) (marker_finishes q part t.kind marker is row) ∙ other)
+  differs_at_marker marker is other = search (rules, differs_refused, differs_if, marker_finishes)
 
 module _ (q : Profile) (left_old left left_new : Option (List ℕ)) (given : List Token) (old new : Reading) (a c : Option (List ℕ)) (announced : CodePlacedMarker) (rise : TokensRise)
     (has : HasGiven q left_old left old given) (between : part_after q given ≡ no_part) where
@@ -292,25 +238,12 @@ module _ (q : Profile) (left_old left left_new : Option (List ℕ)) (given : Lis
 
   -- what is written of the game behind these tokens
   written_of : (ts : List Token) (o : Option (List ℕ)) → SameGames q given ts → GainsAs w q given ts a o → Appends a o (torn w (part_after q ts))
-  written_of ts o same gains =
-      let none : torn w (part_after q given) ≡ [] = ap (torn w) between ∙ torn-none w.missing_result w.mode in
-      let before : due_as w q given ≡ text_of q (read q given).progress.games = ap (λ l. text_of q (read q given).progress.games ++ l) none ∙ append-nil _ in
-      let after : text_of q (read q given).progress.games ++ torn w (part_after q ts) ≡ text_of q (read q given).progress.games ++ gains.text =
-      ap (λ gs. text_of q gs ++ torn w (part_after q ts)) (sym same) ∙ gains.due_for ∙ ap (λ l. l ++ gains.text) before in
-      subst (Appends a o) (sym (append_cancel_left (text_of q (read q given).progress.games) _ _ after)) gains.appended
+  written_of ts o same gains = search (rules, torn-none, append-nil, append_cancel_left)
 
   -- and of a game that is whole
   game_text_of : (ts : List Token) (g : Game) (o : Option (List ℕ)) → part_after q ts ≡ no_part → OneGame q given ts g → GainsAs w q given ts a o
       → Appends a o (game_text q g)
-  game_text_of ts g o behind one gains =
-      let games : List Game = (read q given).progress.games in
-      let none_before : torn w (part_after q given) ≡ [] = ap (torn w) between ∙ torn-none w.missing_result w.mode in
-      let none_after : torn w (part_after q ts) ≡ [] = ap (torn w) behind ∙ torn-none w.missing_result w.mode in
-      let before : due_as w q given ≡ text_of q games = ap (λ l. text_of q games ++ l) none_before ∙ append-nil _ in
-      let now : due_as w q ts ≡ text_of q (games ++ g ∷ []) = ap (λ l. text_of q (read q ts).progress.games ++ l) none_after ∙ append-nil _ ∙ ap (text_of q) one in
-      let after : text_of q games ++ game_text q g ≡ text_of q games ++ gains.text =
-      sym (text_of-snoc q games g) ∙ sym now ∙ gains.due_for ∙ ap (λ l. l ++ gains.text) before in
-      subst (Appends a o) (sym (append_cancel_left (text_of q games) _ _ after)) gains.appended
+  game_text_of ts g o behind one gains = search (rules, torn-none, append-nil, text_of-snoc, append_cancel_left)
 
   -- it stops behind these tokens
   module _ (ts : List Token) (now : Converter) (o : Option (List ℕ)) (since : Since (start_at q old given a (Some announced)) now ts o) (games : now.games ≡ old.converter.games)
@@ -433,9 +366,7 @@ module _ (q : Profile) (left_old left left_new : Option (List ℕ)) (given : Lis
         tokens = front;
         passes = passes_front;
         no_game = same;
-        matched = λ ms h.
-            rw rest.1 (matched_on q given rest.0 has.has_read.passes (rw rest.1 at passes_front) (rw rest.1 at same)
-            (no_end_before rise u given rest.0 front e [] whole rest.1) ms expected h);
+        matched = search (rules, matched_on, passes_front, no_end_before);
         mid = c;
         wrote = rw part_is at (written_of ts c none_more (here.since.gains writes));
         why = subst (λ n. readings.WhySecond q left_old left_new front announced c c (record { at = n; reason = Changed }))
@@ -451,7 +382,5 @@ module _ (q : Profile) (left_old left left_new : Option (List ℕ)) (given : Lis
           no_end_before rise s [] given given next.0 next.1 (left ∙ ap (λ ts. given ++ ts) next.2) refl
 
       given_no_end : (ended : Bool) (u : List ℕ) → HasGivenIn (known_by ended u) old.converter.lexer given → HasNoEnd given
-      given_no_end false u on =
-          let l = old.converter.lexer in
-          no_end_in (take l.count (within_limit u)) (left_of l (take l.count (within_limit u)) (first (drop l.count (within_limit u))) given on.stands)
+      given_no_end false u on = search (rules, no_end_in, left_of)
       given_no_end true u left = no_end_in u left

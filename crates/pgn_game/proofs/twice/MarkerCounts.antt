@@ -3,8 +3,7 @@
 -- Letters: q is the profile whose missing Result takes the marker. For the reader it counts as the
 -- marker `text`. k is the kind of a token, g a game.
 use Rattle.pgn_lexer.specs.Tokens as tokens
-use Rattle.pgn_lexer.specs.declared.token.LexReason.TheVariants as lex_reasons
-use Rattle.pgn_game.proofs.Words.{mode_unless, Kind, Reason, Changed, Lexical, ReadFault, WriteFault, changed_reason, Stage, Between, AfterLeftBracket, AfterName, AfterValue, AfterTags, InMovetext, Profile, Missing, counts_as, takes_the_marker, Game, Part, ◌≡◌, ℕ, ◌⊎◌, Bool, true, false, not, List, [], ◌∷◌, Option, None, Some, inl, inr, refl, sym, ap, subst, ◌∙◌, true≢false, IsTrue, list_all, counting, with_missing, start_of, Row, rows, first_holding, refusal, in_name, is_score, has_other_result, marker_of, game_text, going, whole, at_stage, items_of, in_text, next, next_in, HoldsItems, GameState, Agrees, HoldsText, is_outside_the_table, game_of, or_else, with_items, and_parts, not-true, LexReason, arith, common_steps}
+use Rattle.pgn_game.proofs.Words.{Kind, Reason, Changed, Lexical, changed_reason, Stage, Between, AfterLeftBracket, AfterName, AfterValue, AfterTags, InMovetext, Profile, Missing, counts_as, takes_the_marker, Game, Part, ◌≡◌, ℕ, ◌⊎◌, Bool, true, false, not, List, [], ◌∷◌, Option, None, Some, refl, sym, ap, ◌∙◌, true≢false, IsTrue, list_all, counting, with_missing, Row, rows, first_holding, refusal, in_name, is_score, has_other_result, marker_of, game_text, going, whole, at_stage, items_of, in_text, next, next_in, GameState, Agrees, HoldsText, is_outside_the_table, game_of, or_else, with_items, and_parts, not-true, LexReason, rules}
 use Rattle.pgn_game.proofs.MarkerTexts.{score_marker, marker_no_name}
 use Rattle.pgn_game.proofs.refusals.RefusalsByStage.{name_refusal, test_failed}
 use Rattle.pgn_game.proofs.refusals.RefusalsInMovetext.{marker_whole, other_if, score_of}
@@ -12,14 +11,12 @@ use Rattle.pgn_game.proofs.refusals.RefusalsInMovetext.{marker_whole, other_if, 
 -- One row of the table depends on a missing Result, and only at a marker.
 other_alike : (text : List ℕ) (part : Part) (k : Kind) → (marker_of k ≡ None) ⊎ (marker_of k ≡ Some text)
     → has_other_result (counts_as text) part k ≡ has_other_result takes_the_marker part k
-other_alike text part k (inl none) = ap (other_if (counts_as text) part.pairs) none ∙ sym (ap (other_if takes_the_marker part.pairs) none)
-other_alike text part k (inr is) = ap (other_if (counts_as text) part.pairs) is ∙ sym (ap (other_if takes_the_marker part.pairs) is)
+other_alike text part k h1 = search (rules, other_if)
 
 pub table_alike : (q : Profile) (a b : Missing) (part : Part) (k : Kind) → has_other_result a part k ≡ has_other_result b part k
     → refusal (with_missing q a) part k ≡ refusal (with_missing q b) part k
 unfolding refusal
-table_alike q a b part (tokens.refused r) same = refl
-table_alike q a b part k same = grind (arith, common_steps)
+table_alike q a b part k same = search rules
 
 pub refusal_counting : (q : Profile) (text : List ℕ) (part : Part) (k : Kind) → q.missing_result ≡ takes_the_marker
     → (marker_of k ≡ None) ⊎ (marker_of k ≡ Some text) → refusal (counting q text) part k ≡ refusal q part k
@@ -35,18 +32,13 @@ no_name s is = let m = score_marker s is in ap (list_all in_name) m.1 ∙ marker
 star_leads : (q : Profile) (stage : Stage) (part : Part) → refusal q (at_stage stage part) tokens.asterisk ≡ None
     → next (at_stage stage part) tokens.asterisk ≡ in_text part tokens.asterisk
 unfolding refusal
-star_leads q Between part free = refl
-star_leads q _ part free = cc
+star_leads q stage part free = search rules
 
 score_leads : (q : Profile) (stage : Stage) (part : Part) (s : List ℕ)
     → is_score s ≡ true → refusal q (at_stage stage part) (tokens.symbol s) ≡ None
     → next (at_stage stage part) (tokens.symbol s) ≡ in_text part (tokens.symbol s)
 unfolding refusal
-score_leads q AfterLeftBracket part s is free =
-    grind (arith, common_steps, test_failed, name_refusal, true≢false, no_name)
-score_leads q AfterName part s is free = absurd (cc)
-score_leads q AfterValue part s is free = absurd (cc)
-score_leads q _ part s is free = refl
+score_leads q stage part s is free = search (rules, test_failed, name_refusal, true≢false, no_name)
 
 pub marker_finishes : (q : Profile) (part : Part) (k : Kind) (marker : List ℕ) → marker_of k ≡ Some marker → refusal q part k ≡ None
     → next part k ≡ whole (record { pairs = part.pairs; items = part.items; marker = marker })
@@ -83,8 +75,7 @@ no_marker_goes part k none = goes_at part.stage part k none
 -- The reader agrees with a part in any profile of its mode.
 module _ (q : Profile) (r : GameState) (part : Part) where
   text_under : (stage : Stage) → q.mode ≡ r.profile.mode → HoldsText stage r part → HoldsText stage (record r { profile = q }) part
-  text_under InMovetext same h = (subst (λ mode. HoldsItems (mode_unless r.writing.is_silent mode) (start_of part.pairs) part.items r.text r.line) (sym same) h.0, h.1)
-  text_under _ same h = h
+  text_under stage same h = search rules
 
   pub agrees_under : q.mode ≡ r.profile.mode → Agrees r part → Agrees (record r { profile = q }) part
   agrees_under same agrees = record { stage = agrees.stage; pairs = agrees.pairs; text = text_under r.stage same agrees.text }
@@ -96,8 +87,7 @@ is_inside r = not (is_outside_the_table r.reason)
 inside_or : (test : Bool) (first reason : Reason) (rest : Option Reason) → is_outside_the_table first ≡ false
     → (rest ≡ Some reason → is_outside_the_table reason ≡ false)
     → or_else test first rest ≡ Some reason → is_outside_the_table reason ≡ false
-inside_or true first reason rest inside more e = let same : first ≡ reason = cc in ap is_outside_the_table (sym same) ∙ inside
-inside_or false first reason rest inside more e = more e
+inside_or test first reason rest inside more e = search rules
 
 first_inside : (rs : List Row) (reason : Reason) → IsTrue (list_all is_inside rs)
     → first_holding rs ≡ Some reason → is_outside_the_table reason ≡ false
@@ -107,21 +97,17 @@ first_inside (r ∷ rs) reason all e =
     inside_or r.holds r.reason reason (first_holding rs) (not-true (is_outside_the_table r.reason) both.0) (first_inside rs reason both.1) e
 
 lexical_inside : (r : LexReason) → is_outside_the_table (Lexical r) ≡ false
-lexical_inside lex_reasons.StrayByte = refl
-lexical_inside _ = refl
+lexical_inside r = search rules
 
 pub refusals_are_inside : (q : Profile) (part : Part) (k : Kind) (reason : Reason)
     → refusal q part k ≡ Some reason → is_outside_the_table reason ≡ false
 unfolding refusal
-refusals_are_inside q part (tokens.refused r) reason is =
-    let same : Lexical r ≡ reason = cc in ap is_outside_the_table (sym same) ∙ lexical_inside r
+refusals_are_inside q part (tokens.refused r) reason is = search (rules, lexical_inside)
 refusals_are_inside q part k reason is = first_inside (rows q part k) reason refl is
 
 -- and such a reason shows a change
 pub changes : (reason : Reason) → is_outside_the_table reason ≡ false → changed_reason reason ≡ Changed
-changes ReadFault h = absurd (cc)
-changes WriteFault h = absurd (cc)
-changes _ h = refl
+changes reason h = search rules
 
 -- a game has the same export text
 pub same_game_text : (q : Profile) (g : Game) → q.missing_result ≡ takes_the_marker → game_text (counting q g.marker) g ≡ game_text q g

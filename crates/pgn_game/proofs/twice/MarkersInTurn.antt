@@ -1,6 +1,6 @@
 -- One token more, of either reading: the markers of the first, and the tokens of the second up to a
 -- marker.
-use Rattle.pgn_game.proofs.Words.{Token, Reason, Profile, Game, Part, ◌≡◌, ℕ, Bool, false, ◌||◌, is_some, List, [], ◌∷◌, ◌++◌, length, Option, None, Some, refl, sym, ap, subst, ◌∙◌, append_assoc, tokens_of, RisesTo, TokensRise, refusal, is_end, Next, going, whole, next, Progress, progress_with, no_progress, progress_after, Read, read, read_from, PlacedMarker, marker_at, markers, markers_from, is_other, is_changed, markers_after, compared_from, compared, HasMarkers, HasMatched, SameGames, part_after, arith, common_steps}
+use Rattle.pgn_game.proofs.Words.{Token, Reason, Profile, Game, Part, ◌≡◌, ℕ, Bool, false, ◌||◌, is_some, List, [], ◌∷◌, ◌++◌, length, Option, None, refl, sym, ap, subst, ◌∙◌, append_assoc, tokens_of, RisesTo, TokensRise, refusal, is_end, Next, going, whole, next, Progress, progress_with, no_progress, progress_after, Read, read, read_from, PlacedMarker, marker_at, markers, markers_from, is_other, is_changed, markers_after, compared_from, compared, HasMarkers, HasMatched, SameGames, part_after, arith, common_steps, rules}
 use Rattle.pgn_game.proofs.EqualReadings.{after_markers, markers_test, after_change, change_test}
 use Rattle.pgn_game.proofs.reading.RunsToEnd.{not_end}
 use Rattle.pgn_game.proofs.stepping.NoneBeforeFault.{reads_behind}
@@ -11,8 +11,7 @@ module _ (q : Profile) (given : List Token) (t : Token) (ms : List PlacedMarker)
   marked_token : (read q given).fault ≡ None → refusal q (part_after q given) t.kind ≡ None → HasMarkers q given ms
       → HasMarkers q (given ++ t ∷ [])
       (ms ++ marker_at t.at (next (part_after q given) t.kind))
-  marked_token passes free so ts =
-      grind (arith, common_steps, append_assoc, markers_test, read-passes)
+  marked_token passes free so ts = search (rules, append_assoc, markers_test, read-passes)
 
   pub marked_game : (g : Game) → (read q given).fault ≡ None → refusal q (part_after q given) t.kind ≡ None
       → next (part_after q given) t.kind ≡ whole g → HasMarkers q given ms → HasMarkers q (given ++ t ∷ [])
@@ -21,32 +20,27 @@ module _ (q : Profile) (given : List Token) (t : Token) (ms : List PlacedMarker)
 
 pub matched_marker : (q : Profile) (ms : List PlacedMarker) (m : PlacedMarker) (us : List Token)
     → HasMatched q ms us [] → HasMatched q (ms ++ m ∷ []) us (m ∷ [])
-matched_marker q ms m us so ns ts =
-    ap (λ (l : List PlacedMarker). compared_from q l no_progress (us ++ ts)) (append_assoc ms (m ∷ []) ns) ∙ so (m ∷ ns) ts
+matched_marker q ms m us so ns ts = search (rules, append_assoc)
 
 -- a token that shows no difference is not rejected
 pub either_false : (o : Option Reason) (other : Bool) → (is_some o || other) ≡ false → (o ≡ None) × (other ≡ false)
-either_false None other same = (refl, same)
-either_false (Some reason) other same = absurd (cc)
+either_false o other same = search rules
 
 pub not_changed : (q : Profile) (m : PlacedMarker) (part : Part) (t : Token) → is_changed q m part t ≡ false
     → (refusal q part t.kind ≡ None) × (is_other m (next part t.kind) t ≡ false)
 not_changed q m part t same = either_false (refusal q part t.kind) (is_other m (next part t.kind) t) same
 
 markers_behind : (n : Next) (m : PlacedMarker) (ns : List PlacedMarker) → markers_after n m ns ≡ markers_after n m [] ++ ns
-markers_behind (going to) m ns = refl
-markers_behind (whole g) m ns = refl
+markers_behind n m ns = search rules
 
 module _ (q : Profile) (ms : List PlacedMarker) (m : PlacedMarker) (us : List Token) (t : Token) where
   matched_token : (read q us).fault ≡ None → is_changed q m (part_after q us) t ≡ false → HasMatched q ms us (m ∷ [])
       → HasMatched q ms (us ++ t ∷ []) (markers_after (next (part_after q us) t.kind) m [])
-  matched_token passes same so ns ts =
-      grind (arith, common_steps, append_assoc, change_test, markers_behind, read-passes, not_changed)
+  matched_token passes same so ns ts = search (rules, append_assoc, change_test, markers_behind, read-passes, not_changed)
 
   pub matched_next : (n : Next) → (read q us).fault ≡ None → is_changed q m (part_after q us) t ≡ false → next (part_after q us) t.kind ≡ n
       → HasMatched q ms us (m ∷ []) → HasMatched q ms (us ++ t ∷ []) (markers_after n m [])
-  matched_next n passes same leads so =
-      subst (λ (n : Next). HasMatched q ms (us ++ t ∷ []) (markers_after n m [])) leads (matched_token passes same so)
+  matched_next n passes same leads so = search (rules, matched_token)
 
 -- Tokens that finish no game.
 
@@ -67,14 +61,12 @@ behind_those (x ∷ xs) ts none = behind_those xs ts none.1
 -- so it is with tokens behind which another comes
 pub no_end_before : TokensRise → (s : List ℕ) (given more tokens : List Token) (t : Token) (rest : List Token) → tokens_of s ≡ tokens ++ t ∷ rest
     → tokens ≡ given ++ more → HasNoEnd more
-no_end_before rise s given more tokens t rest cut is =
-    behind_those given more (subst HasNoEnd is (none_is_end tokens t rest (subst RisesTo cut (rise s))))
+no_end_before rise s given more tokens t rest cut is = search (rules, behind_those, none_is_end)
 
 -- where a token leads that finishes none
 quiet_token : (q : Profile) (b : Progress) (t : Token) (ts : List Token) → length (read_from q (progress_after b t) ts).progress.games ≡ length b.games
     → (n : Next) → next b.part t.kind ≡ n → (to : Part) × (next b.part t.kind ≡ going to)
-quiet_token q b t ts same (going to) leads = (to, leads)
-quiet_token q b t ts same (whole g) leads = absurd (game_stays q b t ts g leads same)
+quiet_token q b t ts same n leads = search (rules, game_stays)
 
 module _ (q : Profile) (b : Progress) (t : Token) (ts : List Token) (passes : (read_from q b (t ∷ ts)).fault ≡ None)
     (same : length (read_from q b (t ∷ ts)).progress.games ≡ length b.games) where
@@ -137,11 +129,9 @@ module _ (q : Profile) (given more : List Token) (before : (read q given).fault 
 
   pub matched_on : HasNoEnd more → (ms : List PlacedMarker) (m : PlacedMarker) → HasMatched q ms given (m ∷ [])
       → HasMatched q ms (given ++ more) (m ∷ [])
-  matched_on no_end ms m so ns ts =
-      grind (arith, common_steps, compared_from, no_progress, append_assoc, quiet_compared, read, more_passes, more_same, behind)
+  matched_on no_end ms m so ns ts = search (rules, append_assoc, quiet_compared, more_passes, more_same, behind)
 
 -- both readings, whatever comes behind them
 pub both_read : (q : Profile) (ts us vs ws : List Token) (ms left : List PlacedMarker) → HasMarkers q ts ms → HasMatched q ms us left
     → compared q (ts ++ vs) (us ++ ws) ≡ compared_from q (left ++ markers_from q (read q ts).progress vs) (read q us).progress ws
-both_read q ts us vs ws ms left marked so =
-    ap (λ (l : List PlacedMarker). compared_from q l no_progress (us ++ ws)) (marked vs) ∙ so (markers_from q (read q ts).progress vs) ws
+both_read q ts us vs ws ms left marked so = search rules

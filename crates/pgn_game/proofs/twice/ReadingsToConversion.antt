@@ -1,5 +1,5 @@
 -- From what the calls of each game return, in both readings, to the conversion.
-use Rattle.pgn_game.proofs.Words.{Token, Reason, Changed, ReadFault, Fault, Profile, takes_the_marker, Game, no_part, ◌≡◌, ℕ, ◌+◌, ◌^◌, ◌<◌, ◌≤◌, max, Bool, true, false, List, [], ◌∷◌, ◌++◌, length, take, Option, None, Some, Ok, IfSome, refl, sym, ap, subst, ◌∙◌, append_assoc, append-nil, length-append, arith, IsTrue, map, sum, take-append-add, Appends-nil, Appends-trans, and_parts, not-false, bytes_eq-Decides, Appends, Device, FailsOnce, tokens_of, decided, plies_of, text_next, gain, refusal, plies_of_finished_games, play_moves, verdict_in, MostTried, PlacedMarker, markers_from, is_other, is_changed, markers_after, Comparison, compared_from, compared, with_marker, torn_before, written_by, earlier_fault, BothSoFar, HasMarkers, Reading, changed_reason, model_marker, part_after, IfSome_then, Totals, game_text, torn, Next, going, whole, next, Progress, progress_with, progress_after, Read, read, totals, verdict_of, Decides, IsTokenPrefix, AreConverted, AreRefused, AreTotalled, HasTaken, MatchesAllMarkers, FirstStops, SecondStops, WriteStops, TwoReadingsFail, TwoReadingsConvert, AllRead, ComesNext, FirstFails, GameRead, GameWritten, HasGiven, ReadFails, SecondFails, Stores, WhyFirst, WhySecond, as_changed, AreShown, known_by, common_steps}
+use Rattle.pgn_game.proofs.Words.{Token, Reason, Changed, ReadFault, Fault, Profile, takes_the_marker, Game, no_part, ◌≡◌, ℕ, ◌+◌, ◌^◌, ◌<◌, ◌≤◌, max, Bool, true, false, List, [], ◌∷◌, ◌++◌, length, take, Option, None, Some, Ok, IfSome, refl, sym, ap, subst, ◌∙◌, append_assoc, append-nil, length-append, arith, map, sum, take-append-add, Appends-nil, Appends-trans, and_parts, not-false, bytes_eq-Decides, Appends, Device, FailsOnce, tokens_of, decided, plies_of, text_next, gain, refusal, plies_of_finished_games, verdict_in, PlacedMarker, markers_from, is_other, is_changed, markers_after, Comparison, compared_from, compared, with_marker, torn_before, written_by, earlier_fault, BothSoFar, HasMarkers, Reading, changed_reason, model_marker, part_after, IfSome_then, Totals, game_text, torn, Next, next, Progress, progress_with, progress_after, read, totals, verdict_of, Decides, IsTokenPrefix, AreConverted, AreRefused, AreTotalled, HasTaken, MatchesAllMarkers, FirstStops, SecondStops, WriteStops, TwoReadingsFail, TwoReadingsConvert, AllRead, ComesNext, FirstFails, GameRead, GameWritten, HasGiven, ReadFails, SecondFails, Stores, WhyFirst, WhySecond, as_changed, AreShown, known_by, common_steps, rules}
 use Rattle.pgn_game.specs.declared.marker.PlacedMarker.{PlacedMarker as CodePlacedMarker}
 use Rattle.pgn_game.specs.export.Text.{text_of}
 use Rattle.pgn_game.specs.games.Progress.{refused as is_refused}
@@ -15,8 +15,7 @@ use Rattle.pgn_game.proofs.twice.MarkersInTurn.{matched_marker, not_changed, bot
 -- what follows for both texts, if both are known
 both_known : (o n : Option (List ℕ)) (A B : List ℕ → Type 0) (P : List ℕ → List ℕ → Type 0)
     → IfSome o A → IfSome n B → ((s r : List ℕ) → A s → B r → P s r) → IfSome o (λ s. IfSome n (λ r. P s r))
-both_known o n A B P first second goes =
-    IfSome_then o {P = A} {Q = λ s. IfSome n (λ r. P s r)} first (λ s x. IfSome_then n {P = B} {Q = λ r. P s r} second (λ r y. goes s r x y))
+both_known o n A B P first second goes = search rules
 
 -- the tokens of the text begin with these
 abbrev Begins : List Token → List ℕ → Type 0
@@ -59,17 +58,15 @@ under_marker q g m takes same = grind (arith, common_steps)
 
 -- between games nothing is written of one
 torn-between : (q : Profile) (ms : List PlacedMarker) → torn_before q ms no_part ≡ []
-torn-between q [] = refl
-torn-between q (m ∷ ms) = refl
+torn-between q ms = search rules
 
 -- what is written when a token is taken that shows no difference
 written_at_token : (q : Profile) (m : PlacedMarker) (ms : List PlacedMarker) (games : List Game) (t : Token) (n : Next)
     → q.missing_result ≡ takes_the_marker → is_other m n t ≡ false
     → written_by q (record { progress = progress_with games n; markers_left = markers_after n m ms; fault = None })
     ≡ text_of q games ++ text_next (with_marker q m) n
-written_at_token q m ms games t (going to) takes same = refl
-written_at_token q m ms games t (whole g) takes same =
-    grind (arith, common_steps, bytes_eq-Decides, and_parts, not-false, torn-between, append-nil, text_of-snoc, under_marker)
+written_at_token q m ms games t n takes same =
+    search (rules, bytes_eq-Decides, and_parts, not-false, torn-between, append-nil, text_of-snoc, under_marker)
 
 pub both_more : (q : Profile) (first_old first_now second_old second_now : Option (List ℕ)) (a b : Reading)
     (before mid : Option (List ℕ)) (so : BothSoFar q first_old first_now second_old second_now a b before mid)
@@ -86,9 +83,7 @@ both_more q first_old first_now second_old second_now a b before mid so m new_a 
       second_tokens = writes.tokens;
       second_stands = writes.stands;
       matched = writes.matched (so.markers ++ model_marker m ∷ []) (matched_marker q so.markers (model_marker m) so.second_tokens so.matched);
-      written = subst (Appends before after)
-          (sym (ap (text_of q) writes.one_game ∙ text_of-snoc q (read q so.second_tokens).progress.games writes.game))
-          (Appends-trans before mid after _ _ so.written writes.written);
+      written = search (rules, text_of-snoc, Appends-trans);
     }
 
 module _ (q : Profile) (first second sink : Device) (first_now : Option (List ℕ)) (a b : Reading)
@@ -99,8 +94,7 @@ module _ (q : Profile) (first second sink : Device) (first_now : Option (List �
   -- where `first` has no marker more, `second` is read no further
   last_marker : (xs us ts vs ws : List Token) → xs ≡ ts ++ vs → us ≡ so.second_tokens ++ ws
       → HasMarkers q ts so.markers → markers_from q (read q ts).progress vs ≡ [] → compared q xs us ≡ at_marker
-  last_marker xs us ts vs ws first second marked none =
-      cc (first, second, both_read q ts so.second_tokens vs ws so.markers [] marked so.matched, none, no_marker_ahead q (read q so.second_tokens).progress ws)
+  last_marker xs us ts vs ws first second marked none = search (rules, both_read, no_marker_ahead)
 
   written : HasTaken sink (written_by q at_marker)
   written = subst (HasTaken sink) (sym (append-nil (text_of q (read q so.second_tokens).progress.games))) so.written
@@ -139,28 +133,8 @@ module _ (q : Profile) (first second sink : Device) (first_now : Option (List �
         second_shown = second_shown;
         no_marker_left = ap (λ (f : Comparison). f.markers_left) (last_marker (tokens_of s) so.second_tokens tokens [] []
             (x ∙ sym (append-nil tokens)) (sym (append-nil so.second_tokens)) (reads.marked so.markers so.marked) refl);
-        converted = subst (λ v. AreConverted q s r v sink) same
-            (converted s r None is (ap (λ (ts : List Token). (read q ts).fault) x ∙ reads.has_read.passes));
-        probes = record {
-          most = omega (arith, probes, first_bound, second_bound);
-          some = λ moves.
-              let some : 0 < b.converter.reading.most_probes =
-              h.probed (in_games c (subst (λ (f : Comparison). IsTrue (play_moves f.progress.games)) is moves)) in
-              omega (arith, probes, some);
-          tried = record {
-            front = so.second_tokens;
-            rest = y.0;
-            cut = y.1;
-            passes = h.passes;
-            same = sym (ap (λ (f : Comparison). f.progress) is);
-            most_of_first = new_a.converter.reading.most_probes;
-            most_of_second = b.converter.reading.most_probes;
-            first_tried = subst (λ (ts : List Token). MostTried true q ts new_a.converter.reading.most_probes) (sym x)
-                (subst (λ (b : Bool). MostTried b q tokens new_a.converter.reading.most_probes) silent reads.has_read.tried);
-            second_tried = subst (λ (x : Bool). MostTried x q so.second_tokens b.converter.reading.most_probes) writes h.tried;
-            greater = probes;
-          };
-        };
+        converted = search (rules, converted);
+        probes = search (rules, in_games);
       })
 
   -- `first` gives no token more
@@ -172,11 +146,7 @@ module _ (q : Profile) (first second sink : Device) (first_now : Option (List �
         matched = IfSome_then second.before {P = Begins so.second_tokens} {Q = λ r. MatchesAllMarkers q (decided u) (tokens_of r) sink} second_begins
             (λ r y.
             let is = last_marker (decided u) (tokens_of r) tokens [] y.0 (sym is_decided ∙ sym (append-nil tokens)) y.1 marked refl in
-            record {
-              fault = ap (λ (f : Comparison). f.fault) is;
-              no_marker_left = ap (λ (f : Comparison). f.markers_left) is;
-              appended = subst (λ (f : Comparison). HasTaken sink (written_by q f)) (sym is) written;
-            });
+            search (rules, written));
       }
 
   first_unread : {f : Fault} (tokens : List Token) → (read q tokens).fault ≡ None → HasMarkers q tokens so.markers
@@ -193,8 +163,7 @@ module _ (q : Profile) (first second sink : Device) (first_now : Option (List �
       let f : Fault = record { at = t.at; reason = reason } in
       let c : Progress = (read q tokens).progress in
       let none : (ts : List Token) → markers_from q c (t ∷ ts) ≡ [] = λ ts. markers_test q c t ts ∙ ap (after_markers q c t ts) rejected in
-      let fault : (ts : List Token) → (read q (tokens ++ t ∷ ts)).fault ≡ Some f =
-      λ ts. ap (λ (r : Read). r.fault) (read-refuses q tokens t ts reason passes rejected) in
+      let fault : (ts : List Token) → (read q (tokens ++ t ∷ ts)).fault ≡ Some f = search (rules, read-refuses) in
       let at_it : compared q (tokens ++ t ∷ []) so.second_tokens ≡ at_marker =
       last_marker (tokens ++ t ∷ []) so.second_tokens tokens (t ∷ []) [] refl (sym (append-nil so.second_tokens)) marked (none []) in
       TwoReadingsFail.refused f
@@ -301,9 +270,7 @@ module _ (q : Profile) (first second sink : Device) (first_now second_now mid : 
       let at_token : compared q first_tokens (tokens ++ t ∷ []) ≡ record { progress = progress_after c t; markers_left = markers; fault = None } =
       goes first_tokens (tokens ++ t ∷ []) [] (t ∷ []) none refl ∙ change_test q marker [] c t [] ∙ ap (after_change q marker [] c t []) same in
       let text : written_by q (compared q first_tokens (tokens ++ t ∷ [])) ≡ (games ++ before_it) ++ more =
-      ap (written_by q) at_token
-      ∙ written_at_token q marker [] c.games t (next c.part t.kind) so.second_stands.has_given.takes (not_changed q marker c.part t same).1
-      ∙ ap (λ (l : List ℕ). games ++ l) (next_is under c.part t.kind) ∙ sym (append_assoc games before_it more) in
+      search (rules, written_at_token, not_changed, next_is, append_assoc) in
       let front : games ++ (before_it ++ take n more) ≡ take (length (games ++ before_it) + n) ((games ++ before_it) ++ more) =
       sym (append_assoc games before_it (take n more)) ∙ sym (take-append-add (games ++ before_it) more n) in
       record {
@@ -318,8 +285,7 @@ module _ (q : Profile) (first second sink : Device) (first_now second_now mid : 
         least = subst (λ (f : Comparison). length (written_by q f) ≤ length (games ++ before_it) + n) (sym at_front) (omega arith);
         short = subst (λ (l : List ℕ). length (games ++ before_it) + n < length l)
             (sym text) (omega (arith, short, length-append (games ++ before_it) more));
-        appended = subst (λ (l : List ℕ). HasTaken sink (take (length (games ++ before_it) + n) l))
-            (sym text) (subst (HasTaken sink) front (all_written _ wrote));
+        appended = search (rules, all_written);
       }
 
   second_differs : (t : Token) → ComesNext second.before tokens t → is_changed q marker c.part t ≡ true → Appends writes.mid sink.after []

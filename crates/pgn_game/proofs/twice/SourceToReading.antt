@@ -1,9 +1,9 @@
 -- What one of two readings has read of its source, up to the end of a game, of the source, or to
 -- where it stops.
 use Rattle.pgn_lexer.specs.declared.partial_token.LexMode.{LexMode}
-use Rattle.pgn_game.proofs.Words.{Token, InputTooLong, ReadFault, Fault, Profile, ◌≡◌, ◌^◌, ◌≤◌, ℕ, arith, Bool, false, true, false≢true, inl, inr, List, [], ◌∷◌, ◌++◌, length, take, drop, zero, suc, length-drop, length-take, take_all, drop_of_length-le, tokens_of, take-append-drop, append_assoc, Option, None, Result, Ok, Err, IfSome, refl, sym, ap, subst, ◌∙◌, Consumes-trans, Consumes, Stands, takes_the_marker, with_missing, decided, Standing, StandsAfter, coming, first, Converter, Reading, AreNext, AreShown, letting_missing_result_take_marker, within_limit, HasGiven, HasGivenIn, ReadFails, ReadingStops, ReadsAllOf, SourceGives, Stores, StandsInText, known_by, common_steps, AfterGameEnd, BeginsAt, Games, games_of}
+use Rattle.pgn_game.proofs.Words.{Token, InputTooLong, ReadFault, Fault, Profile, ◌≡◌, ◌^◌, ◌≤◌, ℕ, arith, Bool, false, true, false≢true, List, [], ◌∷◌, ◌++◌, length, take, drop, length-drop, length-take, take_all, drop_of_length-le, tokens_of, take-append-drop, append_assoc, Option, None, Result, Ok, Err, IfSome, refl, sym, ap, subst, ◌∙◌, Consumes-trans, Consumes, Stands, takes_the_marker, with_missing, decided, Standing, StandsAfter, coming, first, Converter, Reading, AreNext, AreShown, letting_missing_result_take_marker, within_limit, HasGiven, HasGivenIn, ReadFails, ReadingStops, ReadsAllOf, SourceGives, Stores, StandsInText, known_by, common_steps, AfterGameEnd, BeginsAt, Games, games_of, rules}
 use Rattle.pgn_game.specs.public.ConverterCalls.{at_end}
-use Rattle.pgn_game.specs.steps.Flow.{At, FinishesLeft, read_on, HasGivenOf, Known, PassesLimit, ReadsOn, Since, Start, ended, so_far}
+use Rattle.pgn_game.specs.steps.Flow.{At, FinishesLeft, read_on, HasGivenOf, Known, PassesLimit, ReadsOn, Start, ended, so_far}
 use Rattle.pgn_game.specs.steps.SourceFlow.{AfterSource, ReadsSource, SourceStops}
 use Rattle.pgn_game.specs.steps.SourceFlow as source_flow
 use Rattle.pgn_game.specs.steps.Readings.{at_read, at_token, reading_of}
@@ -65,44 +65,23 @@ AtSourceEnd start left_old left c unused after =
 -- ---- where a call begins
 
 given_of : (e : Bool) (u : List ℕ) (l : Standing) (given : List Token) → HasGivenIn (known_by e u) l given → HasGivenOf (known_by e u) l false given
-given_of false u l given on = (on.inside, on.stands)
-given_of true u l given left = left
+given_of e u l given h1 = search rules
 
 module _ (left_old left : Option (List ℕ)) (start : Start) (r : Reading) (u : List ℕ) (o : Option (List ℕ)) (begins : BeginsAt left_old left start r u o) where
   here_by : (e : Bool) → HasGivenIn (known_by e u) r.converter.lexer start.given → At start (known_by e u) r.converter start.given start.before
-  here_by false given =
-      record {
-        since = since_start start r.converter begins.has_read begins.known;
-        lexer = given_of false u r.converter.lexer start.given given;
-        decided = inr (begins.count, refl);
-        over = λ is. absurd (false≢true (sym begins.going ∙ is));
-      }
-  here_by true given =
-      record {
-        since = since_start start r.converter begins.has_read begins.known;
-        lexer = rw begins.going (given_of true u r.converter.lexer start.given given);
-        decided = tt;
-        over = λ is. absurd (false≢true (sym begins.going ∙ is));
-      }
+  here_by false given = search (rules, since_start, given_of, false≢true)
+  here_by true given = search (rules, since_start, given_of, false≢true)
 
   here : At start (known_by r.has_ended u) r.converter start.given o
   here = subst (At start (known_by r.has_ended u) r.converter start.given) (sym begins.begun) (here_by r.has_ended begins.lexer)
 
 -- a front of a longer text that is no longer
 front_same : (u more : List ℕ) (n : ℕ) → length (take n (u ++ more)) ≤ length (take n u) → take n u ≡ take n (u ++ more)
-front_same [] [] zero fits = refl
-front_same [] (x ∷ more) zero fits = refl
-front_same [] [] (suc n) fits = refl
-front_same [] (x ∷ more) (suc n) fits = absurd (omega (arith, fits))
-front_same (x ∷ u) more zero fits = refl
-front_same (x ∷ u) more (suc n) fits = ap (λ l. x ∷ l) (front_same u more n (omega (arith, fits)))
+front_same u more n fits = grind (arith, common_steps)
 
 stands_end : (s : List ℕ) (l : Standing) (tokens : List Token) → StandsAfter l (take l.count s) (first (drop l.count s)) tokens → length s ≤ l.count
     → StandsAfter l s None tokens
-stands_end s l tokens stands size =
-    let all : take l.count s ≡ s = take_all l.count s size in
-    let none : drop l.count s ≡ [] = drop_of_length-le s size in
-    rw (all, none) at stands
+stands_end s l tokens stands size = search (rules, take_all, drop_of_length-le)
 
 -- where the source has not ended, and all bytes before place 2^62 were read
 module _ (left_old left : Option (List ℕ)) (start : Start) (old : Reading) (u : List ℕ) (o : Option (List ℕ)) (begins : BeginsAt left_old left start old u o)
@@ -119,27 +98,14 @@ module _ (left_old left : Option (List ℕ)) (start : Start) (old : Reading) (u 
   same_text same = front_same u more (2 ^ 62) (omega (arith, size, same, begins.count, begun.inside))
 
   all_decided : tokens ≡ decided (within_limit (u ++ more))
-  all_decided = elim there.decided [
-    | inl is ↦ (used_up s c.lexer tokens (record { inside = there.lexer.0; stands = there.lexer.1; decided = is }) size).1
-    | inr nothing ↦
-        let same = same_text nothing.0 in
-        let few : length (within_limit u) ≤ old.converter.lexer.count = omega (arith, ap (length {A = ℕ}) same, size, nothing.0, begins.count) in
-        nothing.1 ∙ (used_up (within_limit u) old.converter.lexer start.given begun few).1 ∙ ap decided same
-  ]
+  all_decided = grind (arith, common_steps, used_up, same_text, begun)
 
   all_left : StandsAfter c.lexer (within_limit (u ++ more)) None tokens
   all_left = stands_end s c.lexer tokens there.lexer.1 size
 
   -- reading ends with no token at fault
   pub reads_all : (new : Converter) → new.reading ≡ c.reading → new.games ≡ c.games → ReadsAllOf start (within_limit (u ++ more)) new after
-  reads_all new same games =
-      record {
-        now = c;
-        same = same;
-        games = games;
-        left = rw all_decided at (left_of c.lexer s None tokens all_left);
-        since = subst (λ ts. Since start c ts after) all_decided there.since;
-      }
+  reads_all new same games = search (rules, all_decided, left_of, all_left)
 
 -- ---- what `read_source` has read
 
@@ -162,8 +128,7 @@ module _ (left_old l m : Option (List ℕ)) (start : Start) (old : Reading) (new
   pub game_of : ReadsSource (games_of old.converter old.unused) new (Ok true) (between l m v w) (between a c x y)
       → AfterGameEnd start left_old m (reading_of new.converter new.unused false) (Ok true) c
   game_of reads =
-      let (so, ends) = to (Ok true) reads in
-      (u ++ so.more, record { consumed = all_consumed so.more so.consumed; stores = so.unused }, so.tokens, so.here, ends)
+      let (so, ends) = to (Ok true) reads in search (rules, all_consumed)
 
   limit_of : (f : Fault) (more : List ℕ) → Consumes l m more → PassesLimit start (u ++ more) f new.converter c → ReadingStops start left_old m f new.converter c
   limit_of f more taken past =
@@ -217,8 +182,7 @@ module _ (left_old l m : Option (List ℕ)) (start : Start) (old : Reading) (new
 -- it had ended before
 pub ended_before : (left_old l : Option (List ℕ)) (start : Start) (old : Reading) (u : List ℕ) (a : Option (List ℕ)) → BeginsAt left_old l start old u a
     → old.has_ended ≡ true → AtSourceEnd start left_old l old.converter old.unused a
-ended_before left_old l start old u a begins over =
-    (u, begins.source.consumed, rw over at begins.source.stores, start.given, rw over at (here left_old l start old u a begins))
+ended_before left_old l start old u a begins over = search rules
 
 -- ---- behind the last piece
 
@@ -232,11 +196,9 @@ ends_source start left_old m now new unused result b c y z (u, consumed, stores,
 
     by_result : (r : Result Bool Fault) → ReadsOn now None new (read_on true r) (between b c y z) → AfterGameEnd start left_old m (reading_of new unused true) r c
     by_result (Ok true) reads =
-        let to = reads start (ended u) tokens tt stood in
-        (u, record { consumed = consumed; stores = now_stores }, to.0, to.1, to.2)
+        let to = reads start (ended u) tokens tt stood in search (rules, now_stores)
     by_result (Ok false) reads =
-        let to = reads start (ended u) tokens tt stood in
-        (u, now_stores, to.0, to.1)
+        let to = reads start (ended u) tokens tt stood in search (rules, now_stores)
     by_result (Err f) reads =
         let to = reads start (ended u) tokens tt stood in
         at_token (ended u) to

@@ -2,16 +2,14 @@
 -- which each game ends.
 -- Letters: q is the profile whose missing Result takes the marker, b the progress, t a token, ts
 -- are tokens.
-use Rattle.pgn_game.proofs.Words.{Token, Profile, takes_the_marker, Game, ◌≡◌, inl, inr, ℕ, List, [], ◌∷◌, ◌++◌, bytes_eq, Option, None, Some, IsTrue, refl, sym, ap, ◌∙◌, list_all-append, bytes_eq-Decides, counting, refusal, marker_of, Next, going, whole, next, Progress, progress_with, progress_after, read_from, and_parts, all_end_with, arith, common_steps}
+use Rattle.pgn_game.proofs.Words.{Token, Profile, takes_the_marker, Game, ◌≡◌, ℕ, List, [], ◌∷◌, ◌++◌, Option, None, IsTrue, refl, sym, ◌∙◌, list_all-append, bytes_eq-Decides, counting, refusal, marker_of, Next, next, Progress, progress_with, progress_after, read_from, and_parts, all_end_with, arith, common_steps, rules}
 use Rattle.pgn_game.proofs.stepping.OneMoreToken.{by_token, first_passes, goes_on}
 use Rattle.pgn_game.proofs.twice.MarkerCounts.{marker_finishes, refusal_counting}
 
 -- the games so far are among those of all tokens
 ends_so_far : (text : List ℕ) (games : List Game) (to : Next)
     → IsTrue (all_end_with text (progress_with games to).games) → IsTrue (all_end_with text games)
-ends_so_far text games (going part) all = all
-ends_so_far text games (whole g) all =
-    (and_parts (all_end_with text games) (all_end_with text (g ∷ [])) (rw (list_all-append (λ (g : Game). bytes_eq g.marker text) games (g ∷ [])) at all)).0
+ends_so_far text games to all = search (rules, and_parts, list_all-append)
 
 end_before : (p : Profile) (text : List ℕ) (b : Progress) (ts : List Token)
     → IsTrue (all_end_with text (read_from p b ts).progress.games) → IsTrue (all_end_with text b.games)
@@ -37,9 +35,4 @@ reads_as_one_marker q text b (t ∷ ts) takes passes all =
   where
     by_marker : (o : Option (List ℕ)) → marker_of t.kind ≡ o → refusal q b.part t.kind ≡ None
         → IsTrue (all_end_with text (progress_after b t).games) → refusal (counting q text) b.part t.kind ≡ refusal q b.part t.kind
-    by_marker None is free ends = refusal_counting q text b.part t.kind takes (inl is)
-    by_marker (Some marker) is free ends =
-        let leads = marker_finishes q b.part t.kind marker is free in
-        let game : Game = record { pairs = b.part.pairs; items = b.part.items; marker = marker } in
-        let same : marker ≡ text = marker_is text b.games game (rw (ap (λ (to : Next). (progress_with b.games to).games) leads) at ends) in
-        refusal_counting q text b.part t.kind takes (inr (is ∙ ap Some same))
+    by_marker o is free ends = search (rules, refusal_counting, marker_finishes, marker_is)

@@ -1,7 +1,7 @@
 -- Runs of bytes of a set, at the front of a piece.
 use Rattle.std.specs.Bool.{then_some}
 use Rattle.std.specs.Prelude.{MatchOption, min}
-use Rattle.pgn_lexer.proofs.Words.{◌≡◌, ℕ, ◌+◌, ◌<◌, ◌≤◌, Bool, true, false, nat_lt, ltb-true, ltb-false, List, length, get_or, get_or-take, length-take-le, take, ap, sym, ◌∙◌, arith, true≢false, Set, is_in, IsRunIn}
+use Rattle.pgn_lexer.proofs.Words.{◌≡◌, ℕ, ◌+◌, ◌<◌, ◌≤◌, Bool, true, false, nat_lt, ltb-true, ltb-false, List, length, get_or, get_or-take, length-take-le, take, ap, sym, ◌∙◌, arith, true≢false, Set, is_in, IsRunIn, rules, common_steps}
 
 -- How far a run was followed in the first bytes of a piece: to the byte n.
 pub record Followed (set : Set) (piece : List ℕ) (limit n : ℕ) : Type 0 where
@@ -24,24 +24,12 @@ module _ (set : Set) (longest : ℕ) (piece : List ℕ) (limit n : ℕ) (h : Fol
       ap (is_in set) (sym (here i (omega (arith, long, less)))) ∙ h.all i (omega arith) less
 
   pub run_ends : limit ≤ longest + 1 → n < limit → IsRunIn set longest piece n
-  run_ends few less =
-      let within = h.within in
-      let from = h.from in
-      record {
-        some = omega arith;
-        few = omega arith;
-        within = omega arith;
-        all = goes;
-        ends = ap (is_in set) (sym (here n less)) ∙ h.ends (omega (arith, long));
-      }
+  run_ends few less = grind (arith, common_steps, goes, long)
 
   -- it goes on behind the first bytes
   pub run_goes_on : ((m : ℕ) → m < length piece → m ≤ longest → m < limit) → limit ≤ n → (m : ℕ) → IsRunIn set longest piece m → ⊥
-  run_goes_on whole all m is =
-      let some = is.some in
-      true≢false (sym (goes m is.some (omega (arith, whole m is.within is.few))) ∙ is.ends)
+  run_goes_on whole all m is = search (rules, true≢false, goes)
 
   pub run_found : limit ≡ min (length piece) (longest + 1) → (b : Bool) → nat_lt n limit ≡ b
       → MatchOption (then_some b n) ((m : ℕ) → IsRunIn set longest piece m → ⊥) (λ m. IsRunIn set longest piece m)
-  run_found same true e = run_ends (omega (arith, same)) (ltb-true n limit e)
-  run_found same false e = run_goes_on (λ m within few. omega (arith, same, within, few)) (ltb-false n limit e)
+  run_found same b e = search (rules, run_ends, ltb-true, run_goes_on, ltb-false)

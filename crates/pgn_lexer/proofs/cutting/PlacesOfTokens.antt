@@ -1,6 +1,6 @@
 -- Where tokens stand.
 use Rattle.pgn_lexer.proofs.stepping.ByteInString.{read_plain, read_escaped}
-use Rattle.pgn_lexer.proofs.Words.{◌≡◌, ℕ, ◌+◌, ◌<◌, ◌≤◌, Bool, true, false, cond, List, [], ◌∷◌, ◌++◌, refl, ap, ◌∙◌, arith, take_while, nat_lt, AllByRecursion, lt-ltb, Class, StringClass, Token, IsLast, RisesTo, TokensRise, Found, gives, stops, Reading, closed, broken, reading, Within, begins_class, begins_first, begins_after, begins, onto, at_end, tokens_from, take_while-cons}
+use Rattle.pgn_lexer.proofs.Words.{◌≡◌, ℕ, ◌+◌, ◌<◌, ◌≤◌, Bool, true, false, cond, List, [], ◌∷◌, ◌++◌, refl, ap, ◌∙◌, arith, take_while, nat_lt, AllByRecursion, lt-ltb, Class, StringClass, Token, IsLast, RisesTo, TokensRise, Found, gives, stops, Reading, closed, broken, reading, Within, begins_class, begins_first, begins_after, begins, onto, at_end, tokens_from, take_while-cons, rules}
 
 -- What begins at a place stands there or further on, and is a rejection or a token that is not the
 -- last.
@@ -26,11 +26,9 @@ reading_from : (start at n : ℕ) (e : Bool) (s : List ℕ) → start ≤ at →
 reading_from start at n false [] after = omega arith
 reading_from start at n true [] after = omega arith
 reading_from start at n false (b ∷ bs) after =
-    plain_from start at n b bs _ after (reading_from start (at + 1) n true bs (omega arith))
-    (reading_from start (at + 1) (n + 1) false bs (omega arith))
+    search (rules, plain_from, (reading_from start (at + 1) n true bs (omega arith)), (reading_from start (at + 1) (n + 1) false bs (omega arith)))
 reading_from start at n true (b ∷ bs) after =
-    escaped_from start at n b bs _ after (reading_from start (at + 1) (n + 1) false bs (omega arith))
-    (reading_from start (at + 1) (n + 2) false bs (omega arith))
+    search (rules, escaped_from, (reading_from start (at + 1) (n + 1) false bs (omega arith)), (reading_from start (at + 1) (n + 2) false bs (omega arith)))
 
 class_from : (at : ℕ) (c : Class) (b : ℕ) (bs : List ℕ) → FoundFrom at (begins_class at c b bs)
 class_from at c b bs = grind (arith, reading_from)

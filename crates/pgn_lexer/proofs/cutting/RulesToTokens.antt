@@ -1,5 +1,5 @@
 -- How a text is cut, and its tokens.
-use Rattle.pgn_lexer.proofs.Words.{CommentEnd, ◌≡◌, ℕ, ◌+◌, ◌<◌, ◌≤◌, Bool, true, false, List, [], ◌∷◌, ◌++◌, length, refl, sym, ap, ◌∙◌, append-nil, append_assoc, arith, length-append, ◌||◌, not, take_while, false≢true, LexReason, ControlByte, BadSuffix, Class, CommentClass, is_line_end, is_space, is_control, is_digit, starts_symbol, continues_symbol, is_suffix, continues_word, Kind, Token, class, comment_class, symbol_at, word_at, glyph_at, suffix_at, Within, begins_class, begins_brace, begins_line, after_class, after_brace, after_line, onto, tokens_from, StopsAt, IsRun, IsSingle, IsSuffix, SpellsToken, Refuses, Where, Cuts, both_true, string_at, reading, with_front, Data, or_cases, and_parts, not-true, common_steps, outside, column, in_suffix, in_escape_line, line, quotes, begins_first, after_first, refused, comment_close, str, glyph, number_of, rules}
+use Rattle.pgn_lexer.proofs.Words.{◌≡◌, ℕ, ◌+◌, ◌<◌, ◌≤◌, Bool, true, false, List, [], ◌∷◌, ◌++◌, length, refl, sym, ap, ◌∙◌, append-nil, append_assoc, arith, length-append, ◌||◌, not, take_while, false≢true, LexReason, ControlByte, BadSuffix, Class, CommentClass, is_line_end, is_space, is_control, is_digit, starts_symbol, continues_symbol, is_suffix, continues_word, Kind, Token, class, comment_class, symbol_at, word_at, glyph_at, suffix_at, Within, begins_class, begins_brace, begins_line, after_class, after_brace, after_line, onto, tokens_from, StopsAt, IsRun, IsSingle, IsSuffix, SpellsToken, Refuses, Where, Cuts, both_true, string_at, reading, with_front, Data, or_cases, and_parts, not-true, common_steps, outside, column, in_suffix, in_escape_line, line, quotes, refused, comment_close, str, glyph, number_of, rules}
 use Rattle.pgn_lexer.specs.Lexes as lexes
 use Rattle.pgn_lexer.proofs.stepping.RunOfBytes.{take_while-true, take_while-false, suffix_goes}
 use Rattle.pgn_lexer.proofs.bytes.ClassToTest.{stray_class, line_end_class, blank_class, line_end_comment, suffix_class, reserved_class, control_class, control_comment}
@@ -45,8 +45,7 @@ suffix_stops at s h1 = grind arith
 -- outside strings and comments, where no escape line begins
 from_class : (first : Bool) (at b : ℕ) (s : List ℕ) (c : Class) → class b ≡ c → (c ≡ Class.Percent → ⊥)
     → outer first at (b ∷ s) ≡ onto at (begins_class at c b s) (tokens_from (at + 1) (after_class c) s)
-from_class false at b s c e other = grind arith
-from_class true at b s c e other = grind (arith, common_steps, onto, begins_first, tokens_from, after_first, begins_class, after_class)
+from_class first at b s c e other = search rules
 
 module _ (first : Bool) (at : ℕ) where
   space_skips : (b : ℕ) (s : List ℕ) → is_space b ≡ true → outer first at (b ∷ s) ≡ outer (is_line_end b) (at + 1) s
@@ -95,8 +94,7 @@ unfolding comment_tokens
 word_goes braces at b s h1 = grind arith
 
 word_stops : (braces : Bool) (at : ℕ) (s : List ℕ) → StopsAt continues_word s → tokens_from at (word_within braces) s ≡ inner braces at s
-word_stops true at s h1 = grind (arith, word_class, word_ends CommentEnd.Brace)
-word_stops false at s h1 = grind (arith, word_class, word_ends CommentEnd.LineEnd)
+word_stops braces at s h1 = search (rules, word_class, word_ends)
 
 letter_first : (braces : Bool) (at b : ℕ) (s : List ℕ) → continues_word b ≡ true
     → inner braces at (b ∷ s) ≡ onto at (word_at at (b ∷ take_while continues_word s)) (tokens_from (at + 1) (word_within braces) s)
@@ -105,8 +103,7 @@ letter_first braces at b s h1 = grind arith
 
 pub word_cut : (braces : Bool) (at b : ℕ) (run s : List ℕ) → continues_word b ≡ true → IsRun continues_word run s
     → inner braces at (b ∷ (run ++ s)) ≡ onto at (word_at at (b ∷ run)) (inner braces (at + 1 + length run) s)
-word_cut braces at b run s e long =
-    letter_first braces at b _ e ∙ rw (take_run _ run s long, skips _ _ _ (word_goes braces) (word_stops braces) _ run s long)
+word_cut braces at b run s e long = search (rules, letter_first, take_run, skips, word_goes, word_stops)
 
 blank_in_comment : (braces : Bool) (at b : ℕ) (s : List ℕ) → is_space b ≡ true → (braces || not (is_line_end b)) ≡ true
     → inner braces at (b ∷ s) ≡ inner braces (at + 1) s
@@ -143,8 +140,7 @@ module _ (first : Bool) (at : ℕ) where
       ≡ onto at (string_at (with_front text (reading at (at + 1 + length raw) (length text) false rest)))
       (tokens_from (at + 1) quotes (raw ++ rest))
   string_reads raw text rest data' fits =
-      let none : 0 + length text ≡ length text = omega arith in
-      from_class first at 34 _ _ refl (λ e. cc) ∙ rw (reads_data at (at + 1) 0 raw text rest data' (omega arith), none)
+      let none : 0 + length text ≡ length text = omega arith in search (rules, from_class, reads_data)
 
   spells_is : (run s : List ℕ) (k : Kind) → SpellsToken run s k
       → outer first at (run ++ s) ≡ placed at k ∷ tokens_from (at + length run) outside s

@@ -12,8 +12,7 @@ behind_byte : (at : ℕ) (b : ℕ) (bs : List ℕ) (c : Bool)
     → tokens_from (at + 1) in_symbol bs ≡ Behind (at + 1) bs (take_while continues_symbol bs)
     → onto at (begins_after c at (class b) b bs) (tokens_from (at + 1) (after_run c in_symbol (class b)) bs)
     ≡ Behind at (b ∷ bs) (take_while continues_symbol (b ∷ bs))
-behind_byte at b bs true run more = grind arith
-behind_byte at b bs false run more = search (rules, onto, begins_class, class, tokens_from, after_class)
+behind_byte at b bs c run more = search rules
 
 behind_run : (at : ℕ) (s : List ℕ) → tokens_from at in_symbol s ≡ Behind at s (take_while continues_symbol s)
 behind_run at [] = ap (λ n. at_end n outside) (omega arith)

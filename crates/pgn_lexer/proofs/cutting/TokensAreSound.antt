@@ -1,5 +1,5 @@
 -- What the tokens that the rules cut are made of.
-use Rattle.pgn_lexer.proofs.Words.{◌≡◌, ℕ, ◌≤◌, Bool, true, false, not, List, ◌∷◌, refl, arith, ◌||◌, map, both_true, AllByRecursion, list_all, starts_symbol, continues_symbol, is_escaped, is_barred, Data, IsSingle, IsSuffix, SpellsToken, Where, Cuts, Lexes, TokensAreSound, IsSoundKind, CommentsClose, AreSoundTokens, Kind, Token}
+use Rattle.pgn_lexer.proofs.Words.{◌≡◌, ℕ, ◌≤◌, Bool, true, false, not, List, ◌∷◌, refl, arith, ◌||◌, map, both_true, AllByRecursion, list_all, starts_symbol, continues_symbol, is_escaped, is_barred, Data, IsSingle, IsSuffix, SpellsToken, Where, Cuts, Lexes, TokensAreSound, IsSoundKind, CommentsClose, AreSoundTokens, Kind, Token, rules}
 use Rattle.pgn_lexer.specs.Lexes as lexes
 use Rattle.pgn_lexer.proofs.cutting.EachTextIsCut.{lexes_once}
 
@@ -26,11 +26,7 @@ single_sound : (b : ℕ) (k : Kind) → IsSingle b k → IsSoundKind k
 single_sound b k h1 = grind arith
 
 spelled_sound : (run s : List ℕ) (k : Kind) → SpellsToken run s k → IsSoundKind k
-spelled_sound _ _ _ (lexes.symbol b run s e long fits) = grind arith
-spelled_sound _ _ _ (lexes.string raw text s written fits) = grind (arith, data_pass)
-spelled_sound _ _ _ (lexes.glyph d ds s e long fits) = fits
-spelled_sound _ _ _ (lexes.suffix run s n is stop) = suffix_small run n is
-spelled_sound _ _ _ (lexes.single b s k is) = single_sound b k is
+spelled_sound run s k h1 = search (rules, data_pass, suffix_small, single_sound)
 
 spelled_outside : (run s : List ℕ) (k : Kind) (ks : List Kind) → SpellsToken run s k → CommentsClose false ks → CommentsClose false (k ∷ ks)
 spelled_outside run s k ks h1 h2 = grind arith

@@ -1,5 +1,5 @@
 -- Each text brings a lexer to a place from which nothing is decided yet, or to a rejection.
-use Rattle.pgn_lexer.proofs.Words.{◌≡◌, ℕ, zero, suc, ◌+◌, ◌*◌, ◌<◌, ◌≤◌, Bool, List, [], ◌∷◌, ◌++◌, length, drop, refl, sym, ap, ◌∙◌, append-nil, append_assoc, arith, take-append-drop, take_while, LexMode, ByteResult, Used, Ends, EndsBefore, Fault, Token, tokens_of, PartialToken, tokens_to_come, token_of, refusal, IsSound, HasNotFailed, pending_in, pending, fault_met, after_byte, IsPrefix, DecidedIsPrefix, KnownIsPrefix}
+use Rattle.pgn_lexer.proofs.Words.{◌≡◌, ℕ, zero, suc, ◌+◌, ◌*◌, ◌<◌, ◌≤◌, Bool, List, [], ◌∷◌, ◌++◌, length, drop, refl, sym, ap, ◌∙◌, append-nil, append_assoc, arith, take-append-drop, take_while, LexMode, ByteResult, Used, Ends, EndsBefore, Fault, Token, tokens_of, PartialToken, tokens_to_come, token_of, refusal, IsSound, HasNotFailed, pending_in, pending, fault_met, after_byte, IsPrefix, DecidedIsPrefix, KnownIsPrefix, rules}
 use Rattle.pgn_lexer.proofs.stepping.StepGives.{StepGives, front_of}
 use Rattle.pgn_lexer.proofs.stepping.ByteGives.{step_gives}
 use Rattle.pgn_lexer.proofs.deciding.GivenAreDecided.{common_of, decided_is, going_none}
@@ -70,5 +70,4 @@ take_while_front p ts = (drop _ ts, sym (take-append-drop _ ts))
 pub known_is_prefix : KnownIsPrefix
 known_is_prefix u s b =
     let front = decided_is_prefix (u ++ b ∷ []) s in
-    let whole : IsPrefix _ _ = (front.0, sym (ap tokens_of (append_assoc u _ s)) ∙ front.1) in
-    prefix_trans _ _ _ (take_while_front _ _) whole
+    let whole : IsPrefix _ _ = (front.0, sym (ap tokens_of (append_assoc u _ s)) ∙ front.1) in search (rules, prefix_trans, take_while_front)

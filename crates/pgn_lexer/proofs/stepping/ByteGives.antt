@@ -1,9 +1,9 @@
 -- Each byte, and the end of the text, gives the tokens that come.
-use Rattle.pgn_lexer.proofs.Words.{◌≡◌, ◌⊎◌, inl, inr, ℕ, ◌<◌, ◌≤◌, List, [], ◌∷◌, length, refl, arith, Some, LexFault, CommentEnd, LexMode, LexReason, TokenForm, HasLength, end, PartialToken, IsSound, HasNotFailed, tokens_to_come, kind_in, kind_of_text, token_of, refusal, pending, fault_met, fault_in_mode, after_byte, after_byte_in, after_end, after_end_in, AfterByte, IsAfterByte, bytes_of, false, in_text, is_in, Text, ByteResult, Used, Ends, EndsBefore, Fault, common_steps}
+use Rattle.pgn_lexer.proofs.Words.{◌≡◌, ◌⊎◌, inl, inr, ℕ, ◌<◌, ◌≤◌, List, [], ◌∷◌, length, refl, arith, Some, LexFault, CommentEnd, LexMode, LexReason, TokenForm, HasLength, end, PartialToken, IsSound, HasNotFailed, tokens_to_come, kind_in, kind_of_text, token_of, refusal, pending, fault_met, fault_in_mode, after_byte, after_byte_in, after_end, after_end_in, AfterByte, IsAfterByte, bytes_of, false, in_text, is_in, Text, ByteResult, Used, Ends, EndsBefore, Fault, rules}
 use Rattle.pgn_lexer.proofs.stepping.StepGives.{Gives, GivesIn, front_of, holds}
 use Rattle.pgn_lexer.proofs.stepping.RunOfBytes.{run_closes}
 use Rattle.pgn_lexer.proofs.stepping.ByteOutside.{begin_gives, begin_line_gives, start_gives, escape_line_gives}
-use Rattle.pgn_lexer.proofs.stepping.ByteInText.{IsNoString, TextSoFar, behind_sound, behind_stands, ends_text, less, so_far, text_closes, text_gives, text_length}
+use Rattle.pgn_lexer.proofs.stepping.ByteInText.{IsNoString, behind_sound, behind_stands, ends_text, less, so_far, text_closes, text_gives, text_length}
 use Rattle.pgn_lexer.proofs.stepping.ByteInString.{in_string_gives, escaped_gives}
 use Rattle.pgn_lexer.proofs.stepping.ByteInGlyph.{dollar_gives, glyph_gives}
 use Rattle.pgn_lexer.proofs.stepping.ByteInComment.{comment_gives}
@@ -65,23 +65,11 @@ stops_text t = grind arith
 close_text : (t : Text) → IsNoString t → (place at : ℕ) (text : List ℕ) → IsSound place (holds (LexMode.Text t) at text)
     → ClosedGives place (holds (LexMode.Text t) at text) (in_text t place (holds (LexMode.Text t) at text) 10)
 close_text t runs place at text sound =
-    let so : TextSoFar t place at text = so_far t runs place at text sound in
-    rw (stops_text t, ends_text t runs place 10 (holds (LexMode.Text t) at text)) (record {
-      sound = behind_sound t place at text so.fits;
-      fresh = tt;
-      not_failed = behind_stands t;
-      lengths = text_length t runs text so.some so.fits;
-      not_end = text_is_not_end t text;
-      less = less t runs;
-      comes = text_closes t runs place at text so.some so.fits;
-    })
+    search (rules, so_far, stops_text, ends_text, holds, behind_sound, behind_stands, text_length, text_is_not_end, less, text_closes)
 
 close_in : (m : LexMode) (place at : ℕ) (text : List ℕ) → length text ≤ 255 → IsSound place (holds m at text)
     → ClosedGives place (holds m at text) (after_end_in m place (holds m at text))
-close_in (LexMode.Text Text.Symbol) place at text h1 h2 = close_text Text.Symbol tt place at text h2
-close_in (LexMode.Text Text.Suffix) place at text h1 h2 = close_text Text.Suffix tt place at text h2
-close_in (LexMode.Text (Text.Word close)) place at text h1 h2 = close_text (Text.Word close) tt place at text h2
-close_in m place at text h1 h2 = grind (arith, common_steps, run_closes)
+close_in m place at text h1 h2 = search (rules, close_text, run_closes)
 
 close_gives : (place : ℕ) (h : PartialToken) → IsSound place h → ClosedGives place h (after_end place h)
 unfolding after_end

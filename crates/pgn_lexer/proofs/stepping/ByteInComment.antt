@@ -1,5 +1,5 @@
 -- A byte in a comment.
-use Rattle.pgn_lexer.proofs.Words.{◌≡◌, ℕ, ◌+◌, ◌<◌, ◌≤◌, Bool, true, false, List, [], ◌∷◌, length, sym, ◌∙◌, arith, WordTooLong, CommentClass, continues_word, Token, word, comment_class, gives, stops, word_at, between, in_word, begins_brace, begins_line, after_brace, after_line, onto, tokens_from, PartialToken, CommentEnd, begin, begins_in_comment}
+use Rattle.pgn_lexer.proofs.Words.{◌≡◌, ℕ, ◌+◌, ◌<◌, ◌≤◌, Bool, true, false, List, [], ◌∷◌, length, sym, ◌∙◌, arith, WordTooLong, CommentClass, continues_word, Token, word, comment_class, gives, stops, word_at, between, in_word, begins_brace, begins_line, after_brace, after_line, onto, tokens_from, PartialToken, CommentEnd, begin, begins_in_comment, rules}
 use Rattle.pgn_lexer.proofs.stepping.StepGives.{Gives, front_by}
 
 abbrev is_word_class : CommentClass → Bool
@@ -47,8 +47,7 @@ word_ends close place b s e = word_tokens close place b s ∙ same_tokens close 
 
 pub comment_gives : (close : CommentEnd) (place b : ℕ) (h : PartialToken) (ended : List Token) (waits : ℕ) → length h.text ≤ 255
     → Gives (front_by place b ended waits (λ s. tokens_from place (between close) (b ∷ s))) (begin place h b (begins_in_comment close (comment_class b)))
-comment_gives CommentEnd.Brace place b h ended waits fits = comment_class_gives CommentEnd.Brace _ place b h ended waits fits
-comment_gives CommentEnd.LineEnd place b h ended waits fits = comment_class_gives CommentEnd.LineEnd _ place b h ended waits fits
+comment_gives close place b h ended waits fits = search (rules, comment_class_gives)
 
 pub word_goes : (close : CommentEnd) (place b : ℕ) (s : List ℕ) → comment_class b ≡ CommentClass.WordByte
     → tokens_from place (in_word close) (b ∷ s) ≡ tokens_from (place + 1) (in_word close) s

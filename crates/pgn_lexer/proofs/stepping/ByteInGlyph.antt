@@ -1,5 +1,5 @@
 -- A byte in a glyph.
-use Rattle.pgn_lexer.proofs.Words.{◌≡◌, ℕ, ◌+◌, ◌-◌, ◌*◌, ◌<◌, ◌≤◌, Bool, true, false, List, [], ◌∷◌, length, refl, ap, ◌∙◌, arith, take_while, nat_le, if◌then◌else◌, leb-true, leb-false, LoneDollar, GlyphRange, Used, EndsBefore, is_digit, glyph, gives, stops, number_from, numbered_at, glyph_at, in_glyph, outside, onto, tokens_from, into, fails, LexMode, TokenForm}
+use Rattle.pgn_lexer.proofs.Words.{◌≡◌, ℕ, ◌+◌, ◌-◌, ◌*◌, ◌<◌, ◌≤◌, Bool, true, false, List, [], ◌∷◌, length, refl, ap, ◌∙◌, arith, take_while, nat_le, if◌then◌else◌, leb-true, leb-false, LoneDollar, GlyphRange, Used, EndsBefore, is_digit, glyph, gives, stops, number_from, numbered_at, glyph_at, in_glyph, outside, onto, tokens_from, into, fails, LexMode, TokenForm, rules}
 use Rattle.pgn_lexer.proofs.stepping.RunOfBytes.{take_while-true, glyph_goes, glyph_ends, run_grows, run_breaks, run_ends}
 use Rattle.pgn_lexer.proofs.stepping.StepGives.{GivesIn}
 
@@ -46,8 +46,7 @@ glyph_gives place at b n text fits small began false e d _ =
       less = omega arith;
       within = outside;
       settled = λ s. refl;
-      comes = λ s. run_ends (λ run. numbered_at at (number_from n run)) is_digit at b [] s _ _
-          (glyph n) e (number_fits at n small) (glyph_ends place b s e);
+      comes = search (rules, run_ends, number_fits, glyph_ends);
       at_end = ap (λ f. onto at f (tokens_from place in_glyph [])) (number_fits at n small);
     }
 

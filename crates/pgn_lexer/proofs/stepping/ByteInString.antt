@@ -1,13 +1,11 @@
 -- A byte in a string.
-use Rattle.pgn_lexer.proofs.Words.{◌≡◌, ℕ, ◌+◌, ◌<◌, ◌≤◌, Bool, true, false, List, [], ◌∷◌, ◌++◌, length, append-nil, append_assoc, arith, length-append, nat_lt, if◌then◌else◌, ControlByte, StringTooLong, UnclosedString, StringClass, Used, Token, string_class, Reading, closed, broken, datum, reading, string_at, quotes, onto, tokens_from, tokens_to_come_in, with_front, grown, fails, set_at, in_text, AfterBackslash, after_backslash, before_last, backslash, ap, eqb-true, ltb-true, subst, take, ◌-◌, PartialToken, LexMode, Text, is_plain, is_escaped, refl, sym, ◌∙◌, ◌⊎◌, true≢false}
+use Rattle.pgn_lexer.proofs.Words.{◌≡◌, ℕ, ◌+◌, ◌<◌, ◌≤◌, Bool, true, false, List, [], ◌∷◌, ◌++◌, length, append-nil, append_assoc, arith, length-append, nat_lt, if◌then◌else◌, ControlByte, StringTooLong, UnclosedString, StringClass, Used, Token, string_class, Reading, closed, broken, datum, reading, string_at, quotes, onto, tokens_from, tokens_to_come_in, with_front, grown, fails, set_at, in_text, AfterBackslash, after_backslash, before_last, backslash, eqb-true, ltb-true, PartialToken, LexMode, Text, is_plain, is_escaped, ◌⊎◌, true≢false, rules, common_steps}
 use Rattle.pgn_lexer.specs.ByteResult as byte_result
 use Rattle.std.proofs.Math.Seq.{take-append_seam}
 use Rattle.pgn_lexer.proofs.stepping.StepGives.{Front, Gives, GivesIn, front_by}
 
 pub before_one_more : (front : List ℕ) (b : ℕ) → before_last (front ++ b ∷ []) ≡ front
-before_one_more front b =
-    let long : length (front ++ b ∷ []) - 1 ≡ length front = omega (arith, length-append front (b ∷ [])) in
-    ap (λ n. take n (front ++ b ∷ [])) long ∙ take-append_seam front (b ∷ [])
+before_one_more front b = grind (arith, common_steps, length-append, take-append_seam)
 
 -- data read so far go in front, one by one
 with_front-datum : (text : List ℕ) (b : ℕ) (r : Reading) → with_front text (datum b r) ≡ with_front (text ++ b ∷ []) r
@@ -67,28 +65,15 @@ module _ (place at b : ℕ) (text : List ℕ) (fits : length text ≤ 255) (bega
 
   plain_backslash : (d : Bool) → nat_lt (length text) 255 ≡ d → string_class b ≡ StringClass.Backslash
       → GivesIn (LexMode.Text Text.Str) place at b text (λ h. if d then grown h AfterBackslash b else fails h h.at StringTooLong)
-  plain_backslash true room is =
-      let short = ltb-true _ _ room in
-      record {
-        sound = record {
-          room = (omega (arith, length-append text (b ∷ [])), (text, ap (λ b. text ++ b ∷ []) (backslash_is b is)));
-          placed = omega arith;
-        };
-        not_failed = tt;
-        comes = λ s. backslash_comes s room is ∙ rw (before_one_more text b) refl;
-      }
-  plain_backslash false full is = grind arith
+  plain_backslash d h1 is = search (rules, ltb-true, length-append, backslash_is, backslash_comes, before_one_more)
 
   pub string_gives : (c : StringClass) → string_class b ≡ c → GivesIn (LexMode.Text Text.Str) place at b text (λ h. byte_result.string place h b c)
-  string_gives StringClass.Plain is = plain_plain _ refl is
-  string_gives StringClass.Backslash is = plain_backslash _ refl is
-  string_gives c h1 = grind (arith, append-nil)
+  string_gives c h1 = search (rules, plain_plain, plain_backslash, append-nil)
 
   pub in_string_gives : (c : Bool) → is_plain b ≡ c → GivesIn (LexMode.Text Text.Str) place at b text
       (λ h. if c then (if nat_lt (length h.text) 255 then grown h (LexMode.Text Text.Str) b else fails h h.at StringTooLong)
       else byte_result.string place h b (string_class b))
-  in_string_gives true e = plain_plain _ refl (plain_class b e)
-  in_string_gives false e = string_gives _ refl
+  in_string_gives c e = search (rules, plain_plain, plain_class, string_gives)
 
 -- what comes after a backslash, behind these data
 module _ (place at b : ℕ) (front : List ℕ) (short : length front < 255) (began : at < place) where
@@ -115,16 +100,12 @@ module _ (place at b : ℕ) (front : List ℕ) (short : length front < 255) (beg
   read_by_itself : (c : Bool) → is_plain b ≡ c → is_escaped b ≡ false
       → Gives behind (if c then (if nat_lt (length stored.text) 255 then grown stored (LexMode.Text Text.Str) b else fails stored at StringTooLong)
       else byte_result.string place stored b (string_class b))
-  read_by_itself true e other = read_plain_byte _ refl (plain_class b e)
-  read_by_itself false e other = read_end _ refl other (λ same. true≢false (sym (class_plain b same) ∙ e))
+  read_by_itself c e other = search (rules, read_plain_byte, plain_class, read_end, true≢false, class_plain)
 
   pub escaped_gives_by : (c : Bool) → is_escaped b ≡ c
       → Gives behind (if c then set_at (LexMode.Text Text.Str) at (front ++ b ∷ []) Used else in_text Text.Str place stored b)
-  escaped_gives_by true e = taken_back e
-  escaped_gives_by false e = read_by_itself _ refl e
+  escaped_gives_by c e = search (rules, taken_back, read_by_itself)
 
 pub escaped_gives : (place at b : ℕ) (text front : List ℕ) → text ≡ front ++ 92 ∷ [] → length text ≤ 255 → at < place
     → GivesIn LexMode.AfterBackslash place at b text (λ h. after_backslash place h b)
-escaped_gives place at b text front is fits began =
-    let short : length front < 255 = omega (arith, subst (λ xs. length xs ≤ 255) is fits, length-append front (92 ∷ [])) in
-    rw (is, before_one_more front 92) (escaped_gives_by place at b front short began _ refl)
+escaped_gives place at b text front is fits began = search (rules, length-append, before_one_more, escaped_gives_by)

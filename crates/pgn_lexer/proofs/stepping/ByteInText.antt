@@ -1,5 +1,5 @@
 -- A byte in a text that is no string.
-use Rattle.pgn_lexer.proofs.Words.{◌≡◌, ℕ, ◌+◌, ◌<◌, ◌≤◌, Bool, true, false, List, [], ◌∷◌, ◌++◌, length, refl, sym, ap, ◌∙◌, arith, length-append, take_while, nat_lt, if◌then◌else◌, ltb-true, ltb-false, SymbolTooLong, BadSuffix, CommentClass, comment_class, continues_word, is_in, symbol, glyph, gives, stops, symbol_at, suffix_at, HasLength, EndsAt, is_run, onto, tokens_from, IsSound, PartialToken, HasNotFailed, pending_in, tokens_to_come_in, grown, fails, into, in_text, text_end, EndsBefore, LexMode, Text, TokenForm, bytes_of, found_of, glyph_of, kind_of_text, longest_of, mode_behind, too_long_of, within_behind, within_of}
+use Rattle.pgn_lexer.proofs.Words.{◌≡◌, ℕ, ◌+◌, ◌<◌, ◌≤◌, Bool, true, false, List, [], ◌∷◌, ◌++◌, length, refl, sym, ◌∙◌, arith, length-append, take_while, nat_lt, if◌then◌else◌, ltb-true, ltb-false, SymbolTooLong, BadSuffix, CommentClass, comment_class, continues_word, is_in, symbol, glyph, gives, stops, symbol_at, suffix_at, HasLength, EndsAt, is_run, onto, tokens_from, IsSound, PartialToken, HasNotFailed, pending_in, tokens_to_come_in, grown, fails, into, in_text, text_end, EndsBefore, LexMode, Text, TokenForm, bytes_of, found_of, glyph_of, kind_of_text, longest_of, mode_behind, too_long_of, within_behind, within_of, rules, common_steps}
 use Rattle.pgn_lexer.proofs.stepping.RunOfBytes.{symbol_goes, symbol_ends, suffix_goes, suffix_ends, run_grows, run_breaks, run_ends, run_closes}
 use Rattle.pgn_lexer.proofs.stepping.StepGives.{GivesIn, holds}
 use Rattle.pgn_lexer.proofs.stepping.ByteInComment.{closes_alike, word_class, word_ends, word_fits, word_goes, word_long}
@@ -11,16 +11,10 @@ pub symbol_long : (at : ℕ) (run : List ℕ) → 255 < length run → symbol_at
 symbol_long at run long = grind arith
 
 suffix_fits : (at : ℕ) (run : List ℕ) → 0 < length run → length run ≤ 2 → suffix_at at run ≡ gives (glyph (glyph_of run))
-suffix_fits at [] some fits = absurd (omega arith)
-suffix_fits at (a ∷ []) some fits = grind arith
-suffix_fits at (a ∷ b ∷ []) some fits = grind arith
-suffix_fits at (a ∷ b ∷ c ∷ run) some fits = absurd (omega arith)
+suffix_fits at run some fits = search rules
 
 suffix_long : (at : ℕ) (run : List ℕ) → 2 < length run → suffix_at at run ≡ stops at BadSuffix
-suffix_long at [] long = absurd (omega arith)
-suffix_long at (a ∷ []) long = absurd (omega arith)
-suffix_long at (a ∷ b ∷ []) long = absurd (omega arith)
-suffix_long at (a ∷ b ∷ c ∷ run) long = refl
+suffix_long at run long = search rules
 
 pub word_byte : (b : ℕ) → continues_word b ≡ true → comment_class b ≡ CommentClass.WordByte
 word_byte b e = rw e refl
@@ -34,51 +28,30 @@ glyph_small run = grind arith
 
 -- what a text is, by its bytes
 text_fits : (t : Text) → IsNoString t → (at : ℕ) (run : List ℕ) → 0 < length run → length run ≤ longest_of t → found_of t at run ≡ gives (kind_of_text t run)
-text_fits Text.Symbol runs at run some fits = symbol_fits at run fits
-text_fits Text.Str runs at run some fits = absurd runs
-text_fits Text.Suffix runs at run some fits = suffix_fits at run some fits
-text_fits (Text.Word close) runs at run some fits = word_fits at run fits
+text_fits t runs at run some fits = search (rules, symbol_fits, suffix_fits, word_fits)
 
 text_long : (t : Text) → IsNoString t → (at : ℕ) (run : List ℕ) → longest_of t < length run → found_of t at run ≡ stops at (too_long_of t)
-text_long Text.Symbol runs at run long = symbol_long at run long
-text_long Text.Str runs at run long = absurd runs
-text_long Text.Suffix runs at run long = suffix_long at run long
-text_long (Text.Word close) runs at run long = word_long at run long
+text_long t runs at run long = search (rules, symbol_long, suffix_long, word_long)
 
 -- what a byte is inside of, that goes on with it or does not
 text_goes : (t : Text) → IsNoString t → (place b : ℕ) (s : List ℕ) → is_in (bytes_of t) b ≡ true
     → tokens_from place (within_of t) (b ∷ s) ≡ tokens_from (place + 1) (within_of t) s
-text_goes Text.Symbol runs place b s e = symbol_goes place b s e
-text_goes Text.Str runs place b s e = absurd runs
-text_goes Text.Suffix runs place b s e = suffix_goes place b s e
-text_goes (Text.Word close) runs place b s e = word_goes close place b s (word_byte b e)
+text_goes t runs place b s e = search (rules, symbol_goes, suffix_goes, word_goes, word_byte)
 
 text_stops : (t : Text) → IsNoString t → (place b : ℕ) (s : List ℕ) → is_in (bytes_of t) b ≡ false
     → tokens_from place (within_of t) (b ∷ s) ≡ tokens_from place (within_behind t) (b ∷ s)
-text_stops Text.Symbol runs place b s e = symbol_ends place b s e
-text_stops Text.Str runs place b s e = absurd runs
-text_stops Text.Suffix runs place b s e = suffix_ends place b s e
-text_stops (Text.Word close) runs place b s e = word_ends close place b s (sym (word_class b) ∙ e)
+text_stops t runs place b s e = search (rules, symbol_ends, suffix_ends, word_ends, word_class)
 
 text_ends : (t : Text) → IsNoString t → (place : ℕ) → tokens_from place (within_of t) [] ≡ tokens_from place (within_behind t) []
-text_ends Text.Symbol runs place = refl
-text_ends Text.Str runs place = absurd runs
-text_ends Text.Suffix runs place = refl
-text_ends (Text.Word close) runs place = closes_alike close place
+text_ends t runs place = search (rules, closes_alike)
 
 -- what a lexer holds in it, and behind it
 text_comes : (t : Text) → IsNoString t → (place at : ℕ) (text s : List ℕ) → tokens_to_come_in (LexMode.Text t) place at text s
     ≡ onto at (found_of t at (text ++ take_while (is_in (bytes_of t)) s)) (tokens_from place (within_of t) s)
-text_comes Text.Symbol runs place at text s = refl
-text_comes Text.Str runs place at text s = absurd runs
-text_comes Text.Suffix runs place at text s = refl
-text_comes (Text.Word close) runs place at text s = refl
+text_comes t runs place at text s = search rules
 
 behind_comes : (t : Text) (place at : ℕ) (text s : List ℕ) → tokens_to_come_in (mode_behind t) place at text s ≡ tokens_from place (within_behind t) s
-behind_comes Text.Symbol place at text s = refl
-behind_comes Text.Str place at text s = refl
-behind_comes Text.Suffix place at text s = refl
-behind_comes (Text.Word close) place at text s = refl
+behind_comes t place at text s = search rules
 
 longest_few : (t : Text) → longest_of t ≤ 255
 longest_few t = grind arith
@@ -120,9 +93,7 @@ less t runs = grind arith
 -- where the text ends in it
 pub text_closes : (t : Text) → IsNoString t → (place at : ℕ) (text : List ℕ) → 0 < length text → length text ≤ longest_of t
     → tokens_to_come_in (LexMode.Text t) place at text [] ≡ record { at = at; kind = kind_of_text t text } ∷ tokens_to_come_in (mode_behind t) place at text []
-text_closes t runs place at text some fits =
-    text_comes t runs place at text [] ∙ run_closes (found_of t at) at text _ _ (text_fits t runs at text some fits)
-    ∙ ap (λ ts. record { at = at; kind = kind_of_text t text } ∷ ts) (text_ends t runs place ∙ sym (behind_comes t place at text []))
+text_closes t runs place at text some fits = search (rules, text_comes, run_closes, text_fits, text_ends, behind_comes)
 
 module _ (t : Text) (runs : IsNoString t) (place at b : ℕ) (text : List ℕ) (some : 0 < length text) (fits : length text ≤ longest_of t)
     (began : place ≡ at + length text) where
@@ -140,15 +111,7 @@ module _ (t : Text) (runs : IsNoString t) (place at b : ℕ) (text : List ℕ) (
         comes = λ s. comes place text (b ∷ s) ∙ run_grows (found_of t at) (is_in (bytes_of t)) at b text s _ _ e (text_goes t runs place b s e)
             ∙ sym (comes (place + 1) (text ++ b ∷ []) s);
       }
-  byte_gives e false full =
-      let long = ltb-false _ _ full in
-      let all = longest_few t in
-      record {
-        sound = record { room = (omega (arith, fits, all), tt); placed = tt };
-        fails = refl;
-        comes = λ s. comes place text (b ∷ s) ∙ run_breaks (found_of t at) (is_in (bytes_of t)) at b text s _ at (too_long_of t) e
-            (text_long t runs at _ (omega (arith, long, length-append text (b ∷ take_while (is_in (bytes_of t)) s))));
-      }
+  byte_gives e false full = grind (arith, common_steps, ltb-false, longest_few, comes, run_breaks, text_long, length-append)
 
   end_gives : is_in (bytes_of t) b ≡ false
       → GivesIn (LexMode.Text t) place at b text (λ h. into h (mode_behind t) (EndsBefore (TokenForm.Text t)))
@@ -165,8 +128,7 @@ module _ (t : Text) (runs : IsNoString t) (place at b : ℕ) (text : List ℕ) (
         less = less t runs;
         within = within_behind t;
         settled = λ s. behind_comes t place at text s;
-        comes = λ s. comes place text (b ∷ s) ∙ run_ends (found_of t at) (is_in (bytes_of t)) at b text s _ _ _ e is
-            (text_stops t runs place b s e ∙ sym (behind_comes t place at text (b ∷ s)));
+        comes = search (rules, comes, run_ends, text_stops, behind_comes);
         at_end = text_closes t runs place at text some fits;
       }
 
@@ -175,9 +137,7 @@ ends_text t runs place b h = grind arith
 
 text_gives_by : (t : Text) → IsNoString t → (place at b : ℕ) (text : List ℕ) → TextSoFar t place at text → (c : Bool) → is_in (bytes_of t) b ≡ c
     → GivesIn (LexMode.Text t) place at b text (λ h. if c then (if nat_lt (length h.text) (longest_of t) then grown h (LexMode.Text t) b else fails h h.at (too_long_of t)) else text_end t place h b)
-text_gives_by t runs place at b text so true e = byte_gives t runs place at b text so.some so.fits so.began e _ refl
-text_gives_by t runs place at b text so false e =
-    rw (ends_text t runs place b (holds (LexMode.Text t) at text)) (end_gives t runs place at b text so.some so.fits so.began e)
+text_gives_by t runs place at b text so c e = search (rules, byte_gives, ends_text, holds, end_gives)
 
 pub text_gives : (t : Text) → IsNoString t → (place at b : ℕ) (text : List ℕ) → IsSound place (holds (LexMode.Text t) at text)
     → GivesIn (LexMode.Text t) place at b text (λ h. in_text t place h b)

@@ -1,5 +1,5 @@
 -- How far a loop has copied bytes of a piece into a buffer.
-use Rattle.pgn_lexer.proofs.Words.{◌≡◌, ℕ, ◌+◌, ◌-◌, ◌<◌, ◌≤◌, true, List, length, get_or, take, drop, sym, ap, ◌∙◌, arith, common_steps, length-take-le, length-drop, get_or-take, get_or-drop, Text, BeginsWithEscape, is_escaped}
+use Rattle.pgn_lexer.proofs.Words.{◌≡◌, ℕ, ◌+◌, ◌-◌, ◌<◌, ◌≤◌, true, List, length, get_or, take, drop, arith, common_steps, length-take-le, length-drop, get_or-take, get_or-drop, Text, BeginsWithEscape, is_escaped, rules}
 
 -- It began at `from`, is at `used` and ends at `end`. The buffer holds `held` bytes, and has room
 -- for the rest: at most `most` in all.
@@ -22,15 +22,4 @@ pub record EscapeAt (piece : List ℕ) (from to : ℕ) : Type 0 where
 
 pub escape_at : (t : Text) (piece : List ℕ) (from to : ℕ) → from ≤ to → to ≤ length piece → BeginsWithEscape t (take (to - from) (drop from piece))
     → EscapeAt piece from to
-escape_at t piece from to some within h =
-    let long : length (take (to - from) (drop from piece)) ≡ to - from = length-take-le (to - from) (drop from piece) (omega (arith, length-drop from piece)) in
-    let two = h.long in
-    let first : get_or (take (to - from) (drop from piece)) 0 0 ≡ get_or piece from 0 =
-    get_or-take (to - from) (drop from piece) 0 0 (omega arith) ∙ get_or-drop from piece 0 0 ∙ ap (λ i. get_or piece i 0) (omega arith) in
-    let second : get_or (take (to - from) (drop from piece)) 1 0 ≡ get_or piece (from + 1) 0 =
-    get_or-take (to - from) (drop from piece) 1 0 (omega arith) ∙ get_or-drop from piece 1 0 in
-    record {
-      within = omega arith;
-      backslash = sym first ∙ h.backslash;
-      escaped = ap is_escaped (sym second) ∙ h.escaped;
-    }
+escape_at t piece from to some within h = search (rules, length-take-le, length-drop, get_or-take, get_or-drop)

@@ -2,7 +2,7 @@
 use Rattle.pgn_lexer.specs.declared.partial_token.LexMode.TheVariants.{Comment, Dollar}
 use Rattle.pgn_lexer.specs.PartialToken.{HasRoom}
 use Rattle.pgn_lexer.specs.RunResult.{RunGives}
-use Rattle.pgn_lexer.proofs.Words.{Begins, CommentClass, Fits, IsBetween, begins_outside, CommentEnd, Sign, begin_outside, begins_in_comment, before_last, comment_close, is_space, kind_of_sign, AfterBackslash, Text, bytes_of, longest_of, mode_behind, in_text, is_in, is_plain, length-append, is_escaped, ◌≡◌, Bool, ℕ, suc, ◌+◌, ◌-◌, ◌*◌, ◌<◌, ◌≤◌, inl, inr, List, [], ◌∷◌, ◌++◌, length, get_or, take, drop, refl, sym, ap, ◌∙◌, add-one, arith, ◌⊎◌, true, false, Some, take_all, drop-cons, LexFault, LexMode, LexReason, Class, StringClass, Outside, Failed, is_digit, class, comment_class, string_class, TokenForm, ByteResult, Used, Ends, EndsBefore, Fault, PartialToken, tokens_to_come, token_of, IsSound, HasNotFailed, pending, fault_met, fault_in_mode, begin, begin_line, string, after_byte, IsAfterByte, IsOutside, Ran, RunsOut, StoodAt, RunsToToken, RunsToFault, common_steps, Glyph}
+use Rattle.pgn_lexer.proofs.Words.{Begins, CommentClass, Fits, IsBetween, begins_outside, CommentEnd, Sign, begin_outside, begins_in_comment, before_last, comment_close, is_space, kind_of_sign, AfterBackslash, Text, bytes_of, longest_of, mode_behind, in_text, is_in, is_plain, length-append, is_escaped, ◌≡◌, Bool, ℕ, ◌+◌, ◌-◌, ◌*◌, ◌<◌, ◌≤◌, List, [], ◌∷◌, ◌++◌, length, get_or, take, refl, ap, ◌∙◌, add-one, arith, ◌⊎◌, true, false, Some, take_all, drop-cons, LexFault, LexMode, LexReason, Class, StringClass, Outside, Failed, is_digit, class, comment_class, string_class, TokenForm, ByteResult, Used, Ends, EndsBefore, Fault, PartialToken, tokens_to_come, token_of, IsSound, HasNotFailed, pending, fault_met, fault_in_mode, begin, begin_line, string, after_byte, IsAfterByte, IsOutside, Ran, RunsOut, StoodAt, RunsToToken, RunsToFault, common_steps, Glyph, rules}
 use Rattle.pgn_lexer.proofs.stepping.StepGives.{StepGives, front_of}
 use Rattle.pgn_lexer.proofs.stepping.ByteGives.{step_gives}
 use Rattle.pgn_lexer.proofs.stepping.ByteInString.{plain_class}
@@ -11,8 +11,7 @@ use Rattle.pgn_lexer.proofs.stepping.ByteInText.{IsNoString, ends_text}
 pub ran_to_token : (place : ℕ) (old : PartialToken) (piece : List ℕ) (new : PartialToken) (used : ℕ) (reached : ByteResult) (form : TokenForm)
     → (reached ≡ Ends form) ⊎ (reached ≡ EndsBefore form) → RunGives place old piece new used reached
     → RunsToToken place old piece (token_of form new) new used
-ran_to_token place old piece new used reached form (inl e) h = rw e at h
-ran_to_token place old piece new used reached form (inr e) h = rw e at h
+ran_to_token place old piece new used reached form h1 h = search rules
 
 takes_gives : (place : ℕ) (h : PartialToken) (b : ℕ) (new : PartialToken) (answer : ByteResult) → IsSound place h
     → IsAfterByte (after_byte place h b) new answer → StepGives (front_of place h b) new answer
@@ -42,39 +41,13 @@ module _ (place : ℕ) (old : PartialToken) (piece : List ℕ) (h : PartialToken
 
   pub ran_uses : (new : PartialToken) → IsAfterByte (after_byte (place + i) h b) new Used → Ran place old piece new (i + 1)
   ran_uses new t =
-      let g = takes_gives _ h b new _ ran.sound t in
-      record {
-        start = λ none. absurd (omega arith);
-        sound = rw next_place at g.sound;
-        not_failed = g.not_failed;
-        fresh = ran.fresh;
-        comes = λ s. longer s ∙ g.comes s ∙ ap (λ p. tokens_to_come p new s) next_place;
-      }
+      let g = takes_gives _ h b new _ ran.sound t in search (rules, next_place, longer)
 
   pub ran_ends : (form : TokenForm) (new : PartialToken) → IsAfterByte (after_byte (place + i) h b) new (Ends form)
       → RunsToToken place old piece (token_of form new) new (i + 1)
   ran_ends form new t =
       let g = takes_gives _ h b new _ ran.sound t in
-      let few = g.few in
-      record {
-        within = omega arith;
-        some = omega arith;
-        fresh = ran.fresh;
-        sound = rw next_place at g.sound;
-        not_failed = g.not_failed;
-        lengths = g.lengths;
-        ends_at = rw next_place at g.ends_at;
-        before = rw next_place at g.before;
-        advances = omega arith;
-        ends = inl (record {
-          some = omega arith;
-          closed = g.closed;
-          last = i;
-          is_last = refl;
-          stood = standing;
-          comes = λ s. longer s ∙ g.comes s ∙ ap (λ p. token_of form new ∷ tokens_to_come p new s) next_place;
-        });
-      }
+      let few = g.few in search (rules, next_place, standing, longer)
 
   -- a token that took no byte was pending
   moves : (new : PartialToken) → pending new ≤ 1 → pending new < pending h → (j : ℕ) → i ≡ j → pending new < 2 * j + pending old
@@ -83,42 +56,12 @@ module _ (place : ℕ) (old : PartialToken) (piece : List ℕ) (h : PartialToken
   pub ran_ends_before : (form : TokenForm) (new : PartialToken) → IsAfterByte (after_byte (place + i) h b) new (EndsBefore form)
       → RunsToToken place old piece (token_of form new) new i
   ran_ends_before form new t =
-      let g = takes_gives _ h b new _ ran.sound t in
-      record {
-        within = omega arith;
-        some = omega arith;
-        fresh = ran.fresh;
-        sound = g.sound;
-        not_failed = g.not_failed;
-        lengths = g.lengths;
-        ends_at = g.ends_at;
-        before = g.before;
-        advances = moves new g.few g.less i refl;
-        ends = inr (record {
-          runs = g.runs;
-          stood = standing;
-          byte = b;
-          more = drop (i + 1) piece;
-          next = drop-cons piece i 0 here ∙ ap (λ x. x ∷ drop (suc i) piece) at_b ∙ ap (λ n. b ∷ drop n piece) (sym (add-one i));
-          within = g.within;
-          settled = g.settled;
-          comes = λ s. ran.comes _ ∙ g.comes s;
-          at_end = ran.comes [] ∙ g.at_end;
-        });
-      }
+      let g = takes_gives _ h b new _ ran.sound t in search (rules, moves, standing, drop-cons, add-one)
 
   pub ran_fails : (reason : LexReason) (new : PartialToken) → IsAfterByte (after_byte (place + i) h b) new (Fault reason)
       → RunsToFault place old piece (fault_met reason new) new (i + 1)
   ran_fails reason new t =
-      let g = takes_gives _ h b new _ ran.sound t in
-      record {
-        within = omega arith;
-        sound = rw next_place at g.sound;
-        fails = g.fails;
-        stays = λ f e. absurd (going_on _ _ f ran.fresh e);
-        some = λ _. omega arith;
-        comes = λ s. longer s ∙ g.comes s;
-      }
+      let g = takes_gives _ h b new _ ran.sound t in search (rules, next_place, going_on, longer)
 
 -- ---- a text of any kind
 
@@ -157,8 +100,7 @@ unless_failed m h1 = grind arith
 
 -- a byte that is no data of a string
 not_plain : (b : ℕ) (c : StringClass) → string_class b ≡ c → (c ≡ StringClass.Plain → ⊥) → (d : Bool) → is_plain b ≡ d → d ≡ false
-not_plain b c is other true e = absurd (other (sym is ∙ plain_class b e))
-not_plain b c is other false e = refl
+not_plain b c is other d e = search (rules, plain_class)
 
 taken_string : (place b : ℕ) (h : PartialToken) (c : StringClass) → string_class b ≡ c → (c ≡ StringClass.Plain → ⊥)
     → in_text Text.Str place h b ≡ string place h b c

@@ -1,7 +1,7 @@
 -- Runs of bytes of a set that are a symbol, a number, a string or a word.
 use Rattle.std.specs.Bool.{then_some}
 use Rattle.std.specs.Prelude.{MatchOption}
-use Rattle.pgn_lexer.proofs.Words.{◌≡◌, Bool, ℕ, zero, suc, ◌<◌, true, false, List, get_or, refl, sym, ap, ◌∙◌, arith, nat_lt, ltb-true, ltb-false, true≢false, is_digit, continues_symbol, starts_symbol, Set, IsRunIn, IsNumberIn, not}
+use Rattle.pgn_lexer.proofs.Words.{◌≡◌, Bool, ℕ, ◌<◌, true, false, List, get_or, refl, sym, ap, ◌∙◌, arith, nat_lt, ltb-true, ltb-false, true≢false, is_digit, continues_symbol, starts_symbol, Set, IsRunIn, IsNumberIn, not, rules}
 use Rattle.pgn_lexer.proofs.cutting.TokensAreSound.{start_continues}
 
 not_digit : (b : ℕ) → continues_symbol b ≡ false → is_digit b ≡ false
@@ -19,9 +19,7 @@ module _ (set : Set) (longest : ℕ) (piece : List ℕ) (n m : ℕ) (first : IsR
   no_shorter less = true≢false (sym (first.all m second.some less) ∙ second.ends)
 
   same_by : (b : Bool) → nat_lt n m ≡ b → (c : Bool) → nat_lt m n ≡ c → n ≡ m
-  same_by true e c f = absurd (no_longer (ltb-true n m e))
-  same_by false e true f = absurd (no_shorter (ltb-true m n f))
-  same_by false e false f = omega (arith, ltb-false n m e, ltb-false m n f)
+  same_by b e c f = omega (arith, no_longer, ltb-true, no_shorter, ltb-false)
 
   one_run : n ≡ m
   one_run = same_by _ refl _ refl
@@ -30,37 +28,18 @@ module _ (set : Set) (longest : ℕ) (piece : List ℕ) (n m : ℕ) (first : IsR
 
 module _ (piece : List ℕ) (n : ℕ) where
   digit_at : is_digit (get_or piece 0 0) ≡ true → IsRunIn Set.Digit 255 piece n → (i : ℕ) → i < n → is_digit (get_or piece i 0) ≡ true
-  digit_at first run zero less = first
-  digit_at first run (suc i) less = run.all (suc i) (omega arith) less
+  digit_at first run i less = search rules
 
   pub digits_in : IsNumberIn piece n → (i : ℕ) → i < n → is_digit (get_or piece i 0) ≡ true
   digits_in is = digit_at is.first is.run
 
   -- it is a symbol
   pub symbol_in : IsNumberIn piece n → IsRunIn Set.Symbol 255 piece n
-  symbol_in is =
-      record {
-        some = is.run.some;
-        few = is.run.few;
-        within = is.run.within;
-        all = λ i some less. start_continues (get_or piece i 0) (digit_starts (get_or piece i 0) (is.run.all i some less));
-        ends = is.ends;
-      }
+  symbol_in is = search (rules, start_continues, digit_starts)
 
   -- a symbol of digits alone is one
   pub number_in : ((i : ℕ) → i < n → is_digit (get_or piece i 0) ≡ true) → IsRunIn Set.Symbol 255 piece n → IsNumberIn piece n
-  number_in digits run =
-      record {
-        first = digits 0 run.some;
-        run = record {
-          some = run.some;
-          few = run.few;
-          within = run.within;
-          all = λ i some less. digits i less;
-          ends = not_digit (get_or piece n 0) run.ends;
-        };
-        ends = run.ends;
-      }
+  number_in digits run = search (rules, not_digit)
 
   no_number : IsRunIn Set.Digit 255 piece n → continues_symbol (get_or piece n 0) ≡ true → (m : ℕ) → IsNumberIn piece m → ⊥
   no_number run goes m is =
@@ -68,5 +47,4 @@ module _ (piece : List ℕ) (n : ℕ) where
 
   pub number_found : is_digit (get_or piece 0 0) ≡ true → IsRunIn Set.Digit 255 piece n → (b : Bool) → continues_symbol (get_or piece n 0) ≡ b
       → MatchOption (then_some (not b) n) ((m : ℕ) → IsNumberIn piece m → ⊥) (λ m. IsNumberIn piece m)
-  number_found first run true goes = no_number run goes
-  number_found first run false ends = record { first = first; run = run; ends = ends }
+  number_found first run b h1 = search (rules, no_number)

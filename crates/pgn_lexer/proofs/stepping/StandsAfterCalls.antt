@@ -1,5 +1,5 @@
 -- A call carries how the lexer stands.
-use Rattle.pgn_lexer.proofs.Words.{◌≡◌, Bool, true, false, ℕ, ◌+◌, ◌<◌, ◌≤◌, inl, inr, List, [], ◌∷◌, ◌++◌, length, take, drop, refl, sym, ap, subst, ◌∙◌, append_assoc, arith, length-append, length-take-le, take-append-drop, Option, None, Some, take_while, ◌⊎◌, AllByRecursion, LexFault, LexMode, Token, tokens_of, decided, known, TokenForm, PartialToken, tokens_to_come, token_of, kind_in, refusal, HasNotFailed, RunsOut, StoodAt, EndsWithByte, EndsBeforeByte, RunsToToken, RunsToFault, Scanned, more, fault, Standing, fault_in_mode, fault_of, Follows, first, still, StandsAfter, EndsNoSooner, Scans, AfterScan}
+use Rattle.pgn_lexer.proofs.Words.{◌≡◌, Bool, true, false, ℕ, ◌+◌, ◌<◌, ◌≤◌, inl, inr, List, [], ◌∷◌, ◌++◌, length, take, drop, refl, sym, ap, subst, ◌∙◌, append_assoc, arith, length-append, length-take-le, take-append-drop, Option, None, Some, take_while, ◌⊎◌, AllByRecursion, LexFault, LexMode, Token, tokens_of, decided, known, TokenForm, PartialToken, tokens_to_come, token_of, kind_in, refusal, HasNotFailed, RunsOut, StoodAt, EndsWithByte, EndsBeforeByte, RunsToToken, RunsToFault, Scanned, more, fault, Standing, fault_in_mode, fault_of, Follows, first, still, StandsAfter, EndsNoSooner, Scans, AfterScan, rules}
 use Rattle.pgn_lexer.specs.Scanned.{token}
 use Rattle.pgn_lexer.proofs.deciding.GivenAreDecided.{common_of, decided_is, going_decides, known_decides}
 use Rattle.pgn_lexer.proofs.deciding.CommonTokens.{common_front}
@@ -88,8 +88,7 @@ module _ (count : ℕ) (old new : PartialToken) (piece : List ℕ) (used : ℕ) 
             record {
               count = omega (arith, h.all, stands.count, length-append u piece);
               before = before_more (length u) _ given (omega (arith, length-append u piece)) stands.before;
-              tokens = λ s goes. ap tokens_of (append_assoc u piece s) ∙ stands.tokens (piece ++ s) (follows_piece b piece s starts goes)
-                  ∙ ap (λ l. given ++ l) (h.comes s);
+              tokens = search (rules, append_assoc, follows_piece);
             } in (
               h.all,
               after,
@@ -191,8 +190,7 @@ module _ (count : ℕ) (old new : PartialToken) (piece : List ℕ) (used : ℕ) 
       ends_before : EndsBeforeByte count old piece (take used piece) (drop used piece) t new used → AfterScan u b given piece behind used (token t)
       ends_before e =
           let tokens : (s : List ℕ) → Follows (first (drop used piece)) s → tokens_of (u' ++ s)
-          ≡ (given ++ t ∷ []) ++ tokens_to_come (count + used) new s =
-          λ s goes. with_token s (follows_front b piece s used h.some starts goes) (next_comes e s (rw e.next at goes)) in
+          ≡ (given ++ t ∷ []) ++ tokens_to_come (count + used) new s = search (rules, with_token, follows_front, next_comes) in
           let from : AllFrom (length u') (tokens_to_come (count + used) new (e.byte ∷ [])) =
           subst (λ n. AllFrom n (tokens_to_come (count + used) new (e.byte ∷ []))) long
           (rw (e.settled _) (tokens_from-from (count + used) e.within (e.byte ∷ []))) in (

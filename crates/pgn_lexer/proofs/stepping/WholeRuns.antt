@@ -3,7 +3,7 @@ use Rattle.pgn_lexer.specs.Class as classes
 use Rattle.pgn_lexer.specs.Class.{Period}
 use Rattle.pgn_lexer.specs.declared.partial_token.LexMode.TheVariants as modes
 use Rattle.pgn_lexer.specs.Scanned.{token as token_scanned}
-use Rattle.pgn_lexer.proofs.Words.{Begins, CommentEnd, Sign, longer_number, if◌then◌else◌, leb-true, nat_le, IfSome, IsText, None, Option, Some, begin_outside, begins_in_comment, begins_outside, comment_class, kind_of_sign, ◌≡◌, Bool, ℕ, zero, suc, ◌+◌, ◌-◌, ◌*◌, ◌<◌, ◌≤◌, inl, inr, List, [], ◌∷◌, ◌++◌, length, get_or, take, drop, refl, sym, ap, subst, ◌∙◌, add-one, arith, true, false, take_all, length-take-le, LexMode, Class, LineEnd, Space, SymbolStart, Alone, LineStart, Outside, is_digit, is_space, class, str, glyph, Token, TokenForm, ByteResult, Ends, Kind, PartialToken, tokens_to_come, token_of, IsSound, HasNotFailed, begin_line, IsOutside, IsAfterByte, after_byte, Ran, RunsOut, RunsToToken, Standing, standing_at, Scans, IsRunIn, IsNumberIn, Set, Text, string_class, rules, take-suc, get_or-take, get_or-drop, length-drop, IsTrue, IsFalse, list_all, bytes_of, kind_of_text, longest_of, mode_behind, tokens_to_come_in, pending_in, IsBetween, IsWhole, Passes, ReadsBehind, is_passed, BeginsUnpassed, and_parts, eqb-true, none, over_space, over_token}
+use Rattle.pgn_lexer.proofs.Words.{Begins, CommentEnd, Sign, longer_number, leb-true, IfSome, IsText, Option, Some, begin_outside, begins_in_comment, begins_outside, comment_class, kind_of_sign, ◌≡◌, Bool, ℕ, zero, suc, ◌+◌, ◌-◌, ◌*◌, ◌<◌, ◌≤◌, inl, inr, List, [], ◌∷◌, ◌++◌, length, get_or, take, drop, refl, sym, ap, subst, ◌∙◌, add-one, arith, true, false, take_all, length-take-le, LexMode, Class, LineEnd, Space, SymbolStart, Alone, LineStart, Outside, is_digit, is_space, class, str, glyph, Token, TokenForm, ByteResult, Ends, Kind, PartialToken, tokens_to_come, token_of, IsSound, HasNotFailed, begin_line, IsOutside, IsAfterByte, after_byte, Ran, RunsOut, RunsToToken, Standing, standing_at, Scans, IsRunIn, IsNumberIn, Set, Text, string_class, rules, take-suc, get_or-take, get_or-drop, length-drop, IsTrue, IsFalse, list_all, bytes_of, kind_of_text, longest_of, mode_behind, tokens_to_come_in, pending_in, IsBetween, IsWhole, Passes, ReadsBehind, is_passed, BeginsUnpassed, and_parts, eqb-true, none, over_space, over_token, common_steps}
 use Rattle.pgn_lexer.proofs.bytes.ClassToTest.{ClassSays, class_says}
 use Rattle.pgn_lexer.proofs.stepping.PieceByByte.{ran_none, ran_uses, ran_ends, ran_ends_before, takes_outside, takes_more, takes_text_end, takes_quote, takes_dollar, takes_digit, takes_glyph_end, takes_between, gap_begun, word_begun, close_begun}
 use Rattle.pgn_lexer.proofs.stepping.ByteInText.{IsNoString}
@@ -12,8 +12,7 @@ use Rattle.pgn_lexer.proofs.stepping.StandsAfterCalls.{scans_nothing, scans_toke
 
 -- what is true of a value, if there is one
 pub where_some : {T : Type 0} {P Q : T → Type 0} (o : Option T) → ((x : T) → P x → Q x) → IfSome o P → IfSome o Q
-where_some None more h = h
-where_some (Some x) more h = more x h
+where_some o more h = search rules
 
 -- ---- between tokens, and between the words of a comment
 
@@ -89,8 +88,7 @@ module _ (place : ℕ) (old : PartialToken) (piece : List ℕ) where
       let within = is.within in
       let few = is.few in
       let ran = ran_on (LexMode.Text t) (λ k. take k piece) n is.some (omega arith) first (λ k some less.
-      let long : length (take k piece) ≡ k = length-take-le k piece (omega arith) in
-      takes_more t _ _ _ _ refl (is.all k some less) (omega (arith, long)) (rw (take-suc piece k 0 (omega arith)) refl)) in
+      let long : length (take k piece) ≡ k = length-take-le k piece (omega arith) in search (rules, takes_more, take-suc)) in
       ran_ends_before place old piece _ n (get_or piece n 0) within refl ran (TokenForm.Text t) _ (takes_text_end t runs _ _ _ _ refl is.ends refl)
 
   module _ (sound : IsSound place old) (outside : IsOutside old.mode) where
@@ -120,9 +118,7 @@ module _ (place : ℕ) (old : PartialToken) (piece : List ℕ) where
         → begin_outside (place + 0) old (get_or piece 0 0) c ≡ record { held = holding m old.text; step = Ends form }
         → begin_line (place + 0) old (get_or piece 0 0) c ≡ begin_outside (place + 0) old (get_or piece 0 0) c
         → RunsToToken place old piece (token_of form (holding m old.text)) (holding m old.text) 1
-    single_runs c m form some is begins on =
-        ran_ends place old piece old 0 (get_or piece 0 0) some refl at_start form (holding m old.text)
-        (takes_outside _ _ _ _ _ c outside is on (rw begins (record { held = refl; step = refl })))
+    single_runs c m form some is begins on = search (rules, ran_ends, at_start, takes_outside)
 
     -- a string without an escape
     string_runs : (n : ℕ) → IsRunIn Set.Data 256 piece n → get_or piece n 0 ≡ 34 → class (get_or piece 0 0) ≡ classes.Quote
@@ -168,8 +164,7 @@ module _ (place : ℕ) (old : PartialToken) (piece : List ℕ) where
         let within = is.within in
         let one : take 1 piece ≡ get_or piece 0 0 ∷ [] = take-suc piece 0 0 (omega arith) in
         let first = ran_uses place old piece old 0 (get_or piece 0 0) (omega arith) refl at_start_comment (holding (LexMode.Text t) (take 1 piece))
-        (takes_between l _ _ _ _ _ _ in_comment begins (rw one (record { held = refl; step = refl }))) in
-        ran_text t runs n first is
+        (takes_between l _ _ _ _ _ _ in_comment begins (rw one (record { held = refl; step = refl }))) in search (rules, ran_text)
 
     close_runs : (k : Sign) (m : LexMode) → 0 < length piece
         → begins_in_comment l (comment_class (get_or piece 0 0)) ≡ Begins.Alone k m → RunsTo (kind_of_sign k) m old.text 1
@@ -265,12 +260,7 @@ module _ (piece : List ℕ) where
       (λ place old sound outside. glyph_runs place old piece sound outside n number within ends (so.ran place old sound outside))
 
 pub longer_is : (n b m : ℕ) → Some m ≡ longer_number n b → (m ≡ 10 * n + (b - 48)) × (10 * n + (b - 48) ≤ 255)
-longer_is n b m e = longer_by _ refl e
-  where
-    longer_by : (c : Bool) → nat_le (10 * n + (b - 48)) 255 ≡ c → Some m ≡ (if c then Some (10 * n + (b - 48)) else None)
-        → (m ≡ 10 * n + (b - 48)) × (10 * n + (b - 48) ≤ 255)
-    longer_by true low e = (cc e, leb-true _ _ low)
-    longer_by false high e = absurd (cc e)
+longer_is n b m e = search (rules, leb-true)
 
 -- ---- what the bytes of a number say of its text
 
@@ -280,10 +270,7 @@ all_digits (suc n) [] h = refl
 all_digits (suc n) (x ∷ xs) h = rw (h 0 (omega arith)) (all_digits n xs (λ i less. h (suc i) (omega arith)))
 
 digits_all : (n : ℕ) (xs : List ℕ) → n ≤ length xs → list_all is_digit (take n xs) ≡ true → (i : ℕ) → i < n → is_digit (get_or xs i 0) ≡ true
-digits_all zero xs within h i less = absurd (omega arith)
-digits_all (suc n) [] within h i less = absurd (omega arith)
-digits_all (suc n) (x ∷ xs) within h zero less = (and_parts (is_digit x) _ h).0
-digits_all (suc n) (x ∷ xs) within h (suc i) less = digits_all n xs (omega arith) (and_parts (is_digit x) _ h).1 i (omega arith)
+digits_all n xs within h i less = grind (arith, common_steps, and_parts)
 
 -- a symbol that is no number
 symbol_unpassed : (n : ℕ) (xs : List ℕ) → IsRunIn Set.Symbol 255 xs n → BeginsUnpassed xs → (b : Bool) → list_all is_digit (take n xs) ≡ b → IsFalse b
@@ -299,8 +286,7 @@ text_unpassed t n xs mode k is unpassed = rw is.is (grind arith)
 -- a token of one byte that is no period
 pub alone_unpassed : (c : Class) (b : ℕ) (k : Sign) (m : LexMode) → class b ≡ c → begins_outside c ≡ Begins.Alone k m → (b ≡ 46 → ⊥)
     → IsFalse (is_passed (kind_of_sign k))
-alone_unpassed (Alone Period) b k m is begins no_period = absurd (no_period (eqb-true b 46 (subst (ClassSays b) is (class_says b))))
-alone_unpassed c b k m is begins no_period = grind arith
+alone_unpassed c b k m is begins no_period = search (rules, eqb-true, class_says)
 
 -- ---- what is passed, and the token behind it
 
@@ -421,12 +407,7 @@ module _ (skips : Bool) (before : Standing) (place : ℕ) (h : PartialToken) (pi
 
       pub passes_gap : (mode : LexMode) → begins_in_comment l (comment_class (get_or piece m 0)) ≡ Begins.Gap mode
           → Passes skips before piece (standing_at (place + (m + 1)) (into_mode h (LexMode.Comment l))) (m + 1)
-      passes_gap mode is =
-          let begun = gap_begun l (get_or piece m 0) mode is in
-          let first = ran_gap (place + m) h one sound_there l in_comment (LexMode.Comment l) (omega (arith, one_long))
-          (rw (one_here, ← begun.0) is) in
-          space (LexMode.Comment l) (rw in_comment (omega arith)) begun.1
-          (out_alike (place + m) h one 1 (LexMode.Comment l) (comment_between l) _ h.at _ h.text room (sym one_long) (omega arith) first)
+      passes_gap mode is = search (rules, gap_begun, ran_gap, sound_there, one_long, one_here, space, out_alike, comment_between)
 
       word_there : (t : Text) → Text.Word l ≡ t → (n : ℕ) (mode : LexMode) (k : Kind) → begins_in_comment l (comment_class (get_or piece m 0)) ≡ Begins.Text t
           → IsText t rest n mode k

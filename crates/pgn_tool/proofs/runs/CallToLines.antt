@@ -1,7 +1,8 @@
 -- Games listed one by one.
-use Rattle.pgn_tool.proofs.Words.{◌≡◌, ℕ, ◌+◌, ◌^◌, ◌≤◌, false, List, [], ◌∷◌, ◌++◌, drop, length, length-take, take-append-drop, Option, None, Some, IfSome, refl, sym, ap, subst, ◌∙◌, append-nil, append_assoc, length-append, arith, Appends, Consumes, IsAtEnd, Appends-trans, Consumes-trans, AppendsFront, Token, tokens_of, InputTooLong, Fault, Game, Read, no_progress, read, HasRead, CountsDevices, Games, HaveRead, within, at_end, NextGame, NoGame, NextStops, ReadsNoGame, IsListed, ListsNoMore, ListStops, game_line, line_just_finished, lines_from, lines_of, list_profile, too_long, unread, Decides, ListedSoFar, Refused, Unwritten, Consumes-whole, Stops, games_before, AreNext, common_steps, AreShown, IsRefused, so_far, within_limit, GameState, rules}
-use Rattle.pgn_tool.proofs.runs.PartsOfText.{front_after}
-use Rattle.pgn_tool.proofs.runs.TokensInTwoParts.{read_stops}
+use Rattle.pgn_tool.proofs.Words.{◌≡◌, ℕ, ◌+◌, ◌^◌, ◌≤◌, false, List, [], ◌∷◌, ◌++◌, length, Option, None, Some, IfSome, refl, sym, ap, subst, ◌∙◌, append-nil, append_assoc, length-append, arith, Appends, Consumes, IsAtEnd, Appends-trans, Consumes-trans, AppendsFront, Token, tokens_of, InputTooLong, Fault, Game, Read, no_progress, read, HasRead, CountsDevices, Games, HaveRead, within, at_end, NextGame, NoGame, NextStops, ReadsNoGame, IsListed, ListsNoMore, ListStops, game_line, line_just_finished, lines_from, lines_of, list_profile, too_long, unread, Decides, ListedSoFar, Refused, Unwritten, Consumes-whole, Stops, games_before, AreNext, common_steps, AreShown, IsRefused, within_limit, GameState, rules}
+use Rattle.pgn_layout.proofs.OneWriteMore.{front_after}
+use Rattle.pgn_game.proofs.stepping.BytesWithinLimit.{decides_by, shown_begins, shown_by}
+use Rattle.pgn_game.proofs.stepping.OneMoreToken.{stops_from}
 
 -- ---- lines
 
@@ -17,12 +18,6 @@ pub has_read_of : (left : Option (List ℕ)) (u : List ℕ) (games : Games) (giv
     → HaveRead list_profile left u games given → HasRead list_profile games.converter given
 has_read_of left u games given h = grind (arith, common_steps)
 
--- the bytes so far decide these tokens
-pub decides_at_token : (o n : Option (List ℕ)) (u : List ℕ) (ts : List Token) → Consumes o n u → AreNext (within_limit u) ts → Decides o n ts
-decides_at_token o n u ts consumed next =
-    Decides.so_far (within_limit u) (drop (2 ^ 62) u) (subst (Consumes o n) (sym (take-append-drop (2 ^ 62) u)) consumed)
-    (omega (arith, length-take (2 ^ 62) u)) next
-
 -- the source has ended
 pub decides_at_end : (o n : Option (List ℕ)) (u : List ℕ) → Consumes o n u → IsAtEnd n → length u ≤ 2 ^ 62 → Decides o n (tokens_of u)
 decides_at_end o n u consumed end short =
@@ -31,7 +26,7 @@ decides_at_end o n u consumed end short =
 -- those read are decided
 decides_read : (o n : Option (List ℕ)) (u : List ℕ) (games : Games) (given : List Token) → Consumes o n u
     → (games.converter.is_finished ≡ false → AreNext (within_limit u) given) → HaveRead list_profile n u games given → Decides o n given
-decides_read o n u games given consumed next (within on) = decides_at_token o n u given consumed (next on.not_finished)
+decides_read o n u games given consumed next (within on) = decides_by o n u given consumed (next on.not_finished)
 decides_read o n u games given consumed next (at_end all) = subst (Decides o n) (sym all.whole) (decides_at_end o n u consumed all.at_end all.short)
 
 -- ---- the whole text of a source
@@ -43,23 +38,15 @@ ReadAs left ts =
     (f : Fault) → (read list_profile ts).fault ≡ Some f
     → (P : List ℕ → Type 0) → ((s : List ℕ) → IsRefused list_profile s f → read list_profile (tokens_of s) ≡ read list_profile ts → P s) → IfSome left P
 
--- the bytes so far begin with those of them before place 2^62
-cut_at_limit : (u rest : List ℕ) → u ++ rest ≡ within_limit u ++ (drop (2 ^ 62) u ++ rest)
-cut_at_limit u rest =
-    ap (λ v. v ++ rest) (sym (take-append-drop (2 ^ 62) u)) ∙ append_assoc (within_limit u) (drop (2 ^ 62) u) rest
-
--- which decide these tokens
+-- the bytes so far decide these tokens
 pub reads_at_token : (o n : Option (List ℕ)) (u : List ℕ) (ts : List Token) → Consumes o n u → AreNext (within_limit u) ts → ReadAs o ts
 reads_at_token None n u ts consumed next f fault P follows = tt
 reads_at_token (Some s) None u ts consumed next f fault P follows = absurd consumed
 reads_at_token (Some s) (Some left) u ts consumed next f fault P follows =
-    let behind : List ℕ = drop (2 ^ 62) u ++ left in
-    let cut : s ≡ within_limit u ++ behind = consumed ∙ cut_at_limit u left in
-    let (rest, begins) = next behind in
-    follows s
-    (record { tokens = ts; shown = so_far (within_limit u) behind cut (omega (arith, length-take (2 ^ 62) u)) next; fault = fault })
-    (ap (λ l. read list_profile (tokens_of l)) cut
-    ∙ ap (read list_profile) begins ∙ read_stops list_profile no_progress ts rest f fault)
+    let shown = shown_by s u left ts consumed next in
+    let (rest, begins) = shown_begins s ts shown in
+    follows s (record { tokens = ts; shown = shown; fault = fault })
+    (ap (read list_profile) begins ∙ stops_from list_profile no_progress ts rest fault)
 
 -- the source has ended
 pub reads_at_end : (o n : Option (List ℕ)) (u : List ℕ) → Consumes o n u → IsAtEnd n → length u ≤ 2 ^ 62 → ReadAs o (tokens_of u)

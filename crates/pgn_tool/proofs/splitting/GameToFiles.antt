@@ -1,9 +1,10 @@
 -- What each game makes of the files of the games so far.
 use Rattle.pgn_tool.proofs.Words.{◌≡◌, ◌∙◌, ℕ, ◌^◌, ◌<◌, ◌≤◌, true, false, List, [], ◌∷◌, ◌++◌, length, length-append, length-take, map, take, Option, Some, IfSome, Result, Ok, Err, sym, ap, subst, inl, inr, ◌⊎◌, arith, append-nil, Appends, Consumes, Consumes-trans, false≢true, length-map, map-append, Device, one_more, Token, tokens_of, Reason, ReadFault, WriteFault, InputTooLong, Fault, game_text, text_of, Read, due, no_progress, read, StopsWriting, CountsDevices, Games, NextGame, NextStops, NoGame, ReadsNoGame, Decides, GameFile, NotMade, Open, Unsplit, list_profile, FileStep, IsBegun, added, bytes_in, closed, failures_in, file_steps, made, number_after, refusal_step, taken_by, whole_files, CountsSource, CountsSplit, GameSplit, IsOwn, LastFile, SplitFiles, reported, settled, CutFile, CutsFile, IsSplit, IsSplitWhole, Logs, LogsCut, SplitResult, SplitStops, SplitsNoMore, StopsAt, files_of, texts_in, torn_file, torn_text, SplitSoFar, Consumes-whole, CreateFault, Stops, games_before, common_steps, IsRefused, GameState}
 use Rattle.pgn_game.specs.export.Due.{Gains}
-use Rattle.pgn_tool.proofs.runs.CallToLines.{ReadAs, decides_at_end, decides_at_token, has_read_of, reads_at_end, reads_at_token}
+use Rattle.pgn_tool.proofs.runs.CallToLines.{ReadAs, decides_at_end, has_read_of, reads_at_end, reads_at_token}
 use Rattle.pgn_tool.proofs.splitting.FilesOfGames.{file_holds, game_is, log_on, none_torn, number_is, taken_is, torn_is, whole_and_one, whole_file}
 use Rattle.pgn_tool.proofs.splitting.NoWriteFaultInTable.{read_own}
+use Rattle.pgn_game.proofs.stepping.BytesWithinLimit.{decides_by}
 
 logs : (before after : Option (List FileStep)) (steps : List FileStep) → after ≡ added before steps → Logs before after steps
 logs before after steps is = grind (arith, common_steps)
@@ -221,7 +222,7 @@ module _ {A : Type 0} (taken : A → Option (List ℕ)) (failures : A → ℕ) (
       by_stop : {h : Fault} → NextStops list_profile so.bytes so.tokens left left_new r none some h
           → CountsDevices h.reason s t 0 (failures_in failures file) → Stopped h
       by_stop (NextStops.at_token h more consumed to) counts =
-          by_stops to.tokens (decides_at_token left_old left_new (so.bytes ++ more) to.tokens (all more consumed) to.next)
+          by_stops to.tokens (decides_by left_old left_new (so.bytes ++ more) to.tokens (all more consumed) to.next)
           (reads_at_token left_old left_new (so.bytes ++ more) to.tokens (all more consumed) to.next) to.stops to.no_game counts
       by_stop (NextStops.at_end h more consumed end short to) counts =
           by_stops (tokens_of (so.bytes ++ more)) (decides_at_end left_old left_new (so.bytes ++ more) (all more consumed) end short)

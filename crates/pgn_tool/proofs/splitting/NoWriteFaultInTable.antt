@@ -1,6 +1,6 @@
 -- No token is rejected because of a write that failed.
 use Rattle.pgn_tool.proofs.Words.{List, [], ◌∷◌, None, Some, true, false, IfSome, Kind, Token, Profile, Part, Row, first_holding, refusal, rows, Progress, progress_after, read_from, IsOwn, arith, common_steps}
-use Rattle.pgn_tool.proofs.runs.TokensInTwoParts.{after_test}
+use Rattle.pgn_game.proofs.stepping.OneMoreToken.{after_test}
 
 abbrev AreOwn : List Row → Type 0
 AreOwn [] = Unit {0}

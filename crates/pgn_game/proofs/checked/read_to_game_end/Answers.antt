@@ -1,4 +1,4 @@
-use Rattle.pgn_game.proofs.Words.{◌≡◌, arith, refl, true, false, Device, device}
+use Rattle.pgn_game.proofs.Words.{◌≡◌, arith, refl, true, false, Device, device, rules}
 use Rattle.pgn_game.specs.steps.Flow.{FinishesLeft}
 use Rattle.pgn_game.proofs.ReaderFitsInMemory.{fits_alike}
 use Rattle.pgn_game.proofs.putting.SilentReader.{seen_alike, silence_then}
@@ -64,9 +64,7 @@ pub returns-then-branch-clause-silent : goal.returns-then-branch-clause-silent
 returns-then-branch-clause-silent g c = c.read_source.ensures.silent
 
 pub finish_left-requires-2 : goal.finish_left-requires-2
-finish_left-requires-2 g c =
-    let reads = rw (c.in_ok-read_source.was, c.if-branch.false) at c.read_source.ensures.reads in
-    (search fits_alike, record { no_fault = reads.fault; not_finished = reads.not_finished })
+finish_left-requires-2 g c = search (rules, fits_alike)
 
 -- the source has ended now
 pub returns-clause-reads : goal.returns-clause-reads

@@ -1,5 +1,5 @@
 use Rattle.std.specs.Result.{is_ok}
-use Rattle.pgn_game.proofs.Words.{◌≡◌, is_some, Bool, true, false, List, ℕ, ◌+◌, ◌-◌, ◌≤◌, None, Some, sym, ap, subst, ◌∙◌, arith, Option, Result, Ok, Err, option_map, refl, Form, move_of_form, with_next, NoMove, Ambiguous, Move, legal, ok_or, Parts, Played, SanFault, Reason, IllegalMove, MoveLimit, move_of, is_at_limit, found_in, AddsPairs, Costs, form_pairs, CostsForm, CostsAnswer, false≢true, form_of}
+use Rattle.pgn_game.proofs.Words.{◌≡◌, is_some, Bool, true, false, List, ℕ, ◌+◌, ◌-◌, ◌≤◌, None, Some, sym, ap, subst, ◌∙◌, arith, Option, Result, Ok, Err, option_map, refl, Form, move_of_form, with_next, NoMove, Ambiguous, Move, legal, ok_or, Parts, Played, SanFault, Reason, IllegalMove, MoveLimit, move_of, is_at_limit, found_in, AddsPairs, Costs, form_pairs, CostsForm, CostsAnswer, false≢true, form_of, rules}
 use Rattle.pgn_game.proofs.find.named_move.Goals as goal
 
 no_form : (p : Parts) (s : List ℕ) → None ≡ form_of s → move_of p s ≡ None
@@ -31,9 +31,7 @@ module _ (p : Parts) where
 of_answer : (p : Parts) (s : List ℕ) (f : Form) (r : Result Played SanFault) (n : ℕ)
     → Some f ≡ form_of s → r ≡ move_of_form p f → CostsAnswer p f r n → Costs p s n
 unfolding Costs
-of_answer p s f r n e h costs =
-    subst (λ (x : Option Form). CostsForm p x n) e
-    (subst (λ (y : Result Played SanFault). CostsAnswer p f y n) h costs)
+of_answer p s f r n e h costs = search rules
 
 -- and a text that is no form
 of_no_form : (p : Parts) (s : List ℕ) (n : ℕ) → None ≡ form_of s → n ≡ 0 → Costs p s n
@@ -49,11 +47,7 @@ of_legal p f m None n legal e = absurd (cc)
 of_move : (p : Parts) (s : List ℕ) (f : Form) (m : Move) (before after : ℕ) → Some f ≡ form_of s
     → ok_or (with_next m (legal p m)) NoMove ≡ move_of_form p f → is_some (legal p m) ≡ true → after ≡ before + form_pairs p f
     → AddsPairs (Costs p s) before after
-of_move p s f m before after e answer legal_move each = record {
-  pairs = form_pairs p f;
-  added = each;
-  costs = of_answer p s f _ _ e answer (of_legal p f m (legal p m) _ legal_move refl);
-}
+of_move p s f m before after e answer legal_move each = search (rules, of_answer, of_legal)
 
 -- and a text with two moves: so many more as the count rose by
 of_ambiguous : (p : Parts) (s : List ℕ) (f : Form) (before after : ℕ) → Some f ≡ form_of s
@@ -66,18 +60,7 @@ of_ambiguous p s f before after e answer two most = record {
 }
 
 pub returns-in_default : goal.returns-in_default
-returns-in_default c = record {
-  found = ap (found_in c.args.position.now) (sym (no_form c.args.position.now c.args.text.now c.in_default.ensures));
-  legal = tt;
-  tried = record {
-    pairs = 0;
-    added = omega arith;
-    costs = of_no_form c.args.position.now c.args.text.now 0 c.in_default.ensures refl;
-  };
-  few = omega arith;
-  some = tt;
-  candidates = tt;
-}
+returns-in_default c = search (rules, no_form, of_no_form)
 
 pub returns-in-Err-NoMove : goal.returns-in-Err-NoMove
 returns-in-Err-NoMove c =
@@ -96,17 +79,7 @@ returns-in-Err-NoMove c =
     }
 
 pub returns-in-Err-Ambiguous : goal.returns-in-Err-Ambiguous
-returns-in-Err-Ambiguous c =
-    let answer = rw c.in-Err-Ambiguous.field-0-is at c.in-Err-Ambiguous.ensures.answer in
-    record {
-      found = ap (found_in c.args.position.now) (sym (of_form c.args.position.now c.args.text.now c.in-Some.form _ c.in-Some.ensures answer));
-      legal = tt;
-      tried = of_ambiguous c.args.position.now c.args.text.now c.in-Some.form _ _ c.in-Some.ensures answer
-          (c.in-Err-Ambiguous.ensures.pairs.two (ap Err c.in-Err-Ambiguous.field-0-is)) c.in-Err-Ambiguous.ensures.pairs.most;
-      few = c.in-Err-Ambiguous.ensures.pairs.bound;
-      some = tt;
-      candidates = tt;
-    }
+returns-in-Err-Ambiguous c = search (rules, of_form, of_ambiguous)
 
 pub returns-then-is_at_limit : goal.returns-then-is_at_limit
 returns-then-is_at_limit c =

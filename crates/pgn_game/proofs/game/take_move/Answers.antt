@@ -1,4 +1,4 @@
-use Rattle.pgn_game.proofs.Words.{Writer, ap, ◌∙◌, WriteFault, IsFound, IsPlayed, GameState, subst, sym}
+use Rattle.pgn_game.proofs.Words.{Writer, ap, ◌∙◌, WriteFault, rules}
 use Rattle.pgn_game.proofs.ReaderLemmas.{reader_alike}
 use Rattle.pgn_game.proofs.putting.EventToGame.{failed_at, move_fails, move_taken, section_fails, taken_at}
 use Rattle.pgn_game.proofs.reader.ErrorReturned.{error_returned}
@@ -17,16 +17,7 @@ returns-in_err-ensure_section g c = record {
 }
 
 pub write_move-requires : goal.write_move-requires
-write_move-requires g c = (
-  search reader_alike,
-  (
-    subst (λ (r : GameState). IsPlayed r c.args.mv) (sym c.in_ok-ensure_section.ensures.reader) c.requires.played,
-    (
-      subst (λ (r : GameState). IsFound r c.args.mv c.args.probes) (sym c.in_ok-ensure_section.ensures.reader) c.requires.found,
-      c.requires.few,
-    ),
-  ),
-)
+write_move-requires g c = search (rules, reader_alike)
 
 pub returns-in_err-write_move : goal.returns-in_err-write_move
 returns-in_err-write_move g c = record {

@@ -1,5 +1,4 @@
-use Rattle.pgn_game.proofs.Words.{Writer, ◌≡◌, ℕ, Appends-nil, All-nil, IsToken, Parts, PutsTokens, Some, ap, arith, device, false, is_nothing, is_written, length, max, mode_of_written, refl, subst, sym, tokens_at, true, ◌∙◌}
-use Rattle.pgn_layout.specs.declared.sink.WriteFault.{WriteFault}
+use Rattle.pgn_game.proofs.Words.{Writer, ◌≡◌, ℕ, Appends-nil, All-nil, Parts, Some, ap, arith, false, is_written, length, max, mode_of_written, refl, subst, sym, true, ◌∙◌, rules}
 use Rattle.pgn_game.specs.public.MostTried.{CostsToWrite}
 use Rattle.pgn_game.specs.games.Game.{move}
 use Rattle.pgn_game.proofs.putting.ItemToMovetext.{not_silent}
@@ -13,13 +12,7 @@ returns-then-not-writes_move g c =
     let left : is_written (mode_of_written c.args.writer.now.written) (length old.text.levels.around) (move m) ≡ false = sym (c.if-not-writes_move.ensures m) in
     record {
       tried = c.args.probes;
-      writes = λ here at. record {
-        puts = rw left (record { text = Appends-nil _; held = refl; each = All-nil IsToken; counted = refl });
-        writer = refl;
-        after = rw left refl;
-        tried = rw left refl;
-        rises = (omega arith, omega arith);
-      };
+      writes = search (rules, Appends-nil, All-nil);
       counts = λ held.
           let same : old.most_probes ≡ max old.most_probes c.args.probes = omega (arith, held) in
           ap (λ (n : ℕ). record old { most_probes = n }) same;
@@ -41,11 +34,7 @@ returns g c =
           let both : Some c.position_before.result.now ≡ Some here = sym c.position_before.ensures ∙ at in
           let is : c.position_before.result.now ≡ here = cc both in
           record {
-            puts = rw written
-                (seen_if (λ d. PutsTokens {A = Unit {0}} {E = WriteFault} (tokens_at w.is_after_move here (move m)) w.line c.put_move-put.new.self.line
-                c.put_move-put.result d) (is_nothing w.written) _ writes
-                (subst (λ (p : Parts). PutsTokens {A = Unit {0}} {E = WriteFault} (tokens_at w.is_after_move p (move m)) w.line c.put_move-put.new.self.line
-                c.put_move-put.result (device g.W.Sink.taken g.W.Sink.failures c.args.out.now c.put_move-put.new.out)) is put.puts));
+            puts = search (rules, seen_if);
             writer = put.writer;
             after = rw written put.after;
             tried = rw written

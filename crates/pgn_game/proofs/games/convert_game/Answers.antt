@@ -1,4 +1,4 @@
-use Rattle.pgn_game.proofs.Words.{false, ◌∙◌, arith, le_trans, refl, Bool, Err, Device, device}
+use Rattle.pgn_game.proofs.Words.{false, ◌∙◌, arith, le_trans, refl, Bool, Err, Device, device, rules}
 use Rattle.pgn_game.specs.steps.Flow.{FinishesLeft}
 use Rattle.pgn_game.proofs.ReaderFitsInMemory.{fits_alike}
 use Rattle.pgn_game.proofs.flow.NextGame.{source_ends, source_game, source_stops}
@@ -12,9 +12,7 @@ pub read_source-requires : goal.read_source-requires
 read_source-requires g c = (search fits_alike, c.requires)
 
 pub finish_left-requires : goal.finish_left-requires
-finish_left-requires g c =
-    let reads = rw (c.in_ok-read_source.was, c.if-branch.false) at c.read_source.ensures.reads in
-    (search fits_alike, record { no_fault = reads.fault; not_finished = reads.not_finished })
+finish_left-requires g c = search (rules, fits_alike)
 
 pub returns-in_err-read_source-clause-goes : goal.returns-in_err-read_source-clause-goes
 returns-in_err-read_source-clause-goes g c =
@@ -24,9 +22,7 @@ returns-in_err-read_source-clause-goes g c =
     let source = device g.R.Source.left g.R.Source.failures c.args.source.now c.read_source.new.source in
     let sink = device g.W.Sink.taken g.W.Sink.failures c.args.out.now c.read_source.new.out in
     rw (error_returned _ c.from_residual.ensures.1) (record {
-      reads = λ p u given have.
-          source_stops p u given _ _ _ _ _ _ _ _ _ _ have c.requires.not_finished f reads
-          (stop_shown_if _ _ _ _ same (λ silent. none_written _ f source sink silent reads.counted)) (shown_if _ _ _ same);
+      reads = search (rules, source_stops, stop_shown_if, none_written, shown_if);
       fewer = λ is. absurd (cc);
       fault = reads.fault;
       probes = reads.probes;

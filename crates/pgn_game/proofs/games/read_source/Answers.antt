@@ -1,4 +1,4 @@
-use Rattle.pgn_game.proofs.Words.{◌≤◌, ◌^◌, ◌∙◌, ap, arith, le_refl, le_trans, refl, Device, device, one_more, sink_of}
+use Rattle.pgn_game.proofs.Words.{◌≤◌, ◌^◌, ◌∙◌, ap, arith, le_refl, le_trans, refl, Device, device, one_more, sink_of, rules}
 use Rattle.pgn_game.specs.steps.Flow.{FeedsPiece}
 use Rattle.pgn_game.proofs.ReaderFitsInMemory.{fits_alike}
 use Rattle.pgn_game.proofs.flow.NextGame.{fed_fault, fed_game, given_more, given_none, read_fails}
@@ -15,25 +15,13 @@ module _ (g : _) (c : After-feed_piece g) where
 
   fed : FeedsPiece c.loop-used.converter c.loop-used.buffer c.feed_piece.new.self c.feed_piece.result
       (sink_of c.args.converter.now.reading g.W.Sink.taken g.W.Sink.failures c.loop-used.out c.feed_piece.new.out)
-  fed =
-      seen_alike (λ (d : Device). FeedsPiece c.loop-used.converter c.loop-used.buffer c.feed_piece.new.self c.feed_piece.result d) _ _ sink
-      c.loop-used.invariant.silent.silent (rw c.unused.ensures at c.feed_piece.ensures.feeds)
+  fed = search (rules, seen_alike)
 
   short : c.args.converter.now.lexer.count ≤ 2 ^ 62
   short = omega (arith, c.loop-used.invariant.grows, fed.goes.grows, fed.goes.short)
 
 pub loop-used-init : goal.loop-used-init
-loop-used-init g c =
-    record {
-      going = c.requires;
-      games = refl;
-      grows = le_refl _;
-      probes = le_refl _;
-      source = refl;
-      sink = refl;
-      silent = silence_kept _ _ _ refl;
-      given = given_none _ _ _ _ 0;
-    }
+loop-used-init g c = search (rules, le_refl, silence_kept, given_none)
 
 pub feed_piece-requires : goal.feed_piece-requires
 feed_piece-requires g c = (search fits_alike, c.loop-used.invariant.going)
@@ -80,9 +68,7 @@ pub returns-in-Game-clause-silent : goal.returns-in-Game-clause-silent
 returns-in-Game-clause-silent g c = silence_then _ _ _ _ _ _ c.loop-used.invariant.silent c.feed_piece.ensures.silent
 
 pub skip-requires : goal.skip-requires
-skip-requires g c =
-    let after = (goal.at.skip-requires g c).After-feed_piece in
-    (rw (c.in_ok-used.was, c.in-Game.is) at (fed g after)).goes.used
+skip-requires g c = search (rules, After-feed_piece, fed)
 
 pub returns-in_err-read_more-clause-reads : goal.returns-in_err-read_more-clause-reads
 returns-in_err-read_more-clause-reads g c =
@@ -124,16 +110,10 @@ loop-used-preserved g c =
     })
 
 pub loop-used-smaller : goal.loop-used-smaller
-loop-used-smaller g c =
-    let after = (goal.at.loop-used-smaller g c).After-feed_piece in
-    let feeds = rw (c.in_ok-used.was, c.in-All.is) at (fed g after) in
-    let more = rw c.if-not-branch.false at c.in_ok-read_more.ensures.more in
-    rw more.0 (omega (arith, feeds.goes.count, feeds.goes.short, more.1, c.in_ok-read_more.ensures.fits))
+loop-used-smaller g c = search (rules, After-feed_piece, fed)
 
 pub read_more-requires : goal.read_more-requires
-read_more-requires g c =
-    let after = (goal.at.read_more-requires g c).After-feed_piece in
-    (search fits_alike, (rw (c.in_ok-used.was, c.in-All.is) at (fed g after)).goes.fault)
+read_more-requires g c = search (rules, After-feed_piece, fits_alike, fed)
 
 pub returns-then-not-branch-clause-reads : goal.returns-then-not-branch-clause-reads
 returns-then-not-branch-clause-reads g c =
@@ -154,6 +134,4 @@ returns-then-not-branch-clause-reads g c =
     })
 
 pub returns-then-not-branch-clause-silent : goal.returns-then-not-branch-clause-silent
-returns-then-not-branch-clause-silent g c =
-    let more = rw c.if-not-branch.true at c.in_ok-read_more.ensures.more in
-    rw more.0 (silence_then _ _ _ _ _ _ c.loop-used.invariant.silent c.feed_piece.ensures.silent)
+returns-then-not-branch-clause-silent g c = search (rules, silence_then)

@@ -1,4 +1,4 @@
-use Rattle.pgn_game.proofs.Words.{arith, refl}
+use Rattle.pgn_game.proofs.Words.{arith, rules}
 use Rattle.pgn_game.proofs.giving.CurrentFitsInMemory.{current_alike}
 use Rattle.pgn_game.proofs.giving.WholeTokenToItems.{reads_at_once, reads_space, reads_whole_item, reads_whole_refused, sound_behind}
 use Rattle.pgn_game.proofs.stepping.PastNumbers.{passes_count}
@@ -23,9 +23,7 @@ read_by_bytes-requires g c =
 
 pub returns-then-used-eq0 : goal.returns-then-used-eq0
 returns-then-used-eq0 g c =
-    let passes = rw c.in_default.is at c.whole_token-used.ensures.reads in
-    reads_at_once _ c.args.current.now _ c.requires.last c.requires.pending c.requires.sound c.requires.short (c.is_in_movetext.ensures.0)
-    passes c.whole_token-used.ensures.used c.if-used-eq0.true _ _ _ _ c.read_by_bytes.ensures
+    let passes = rw c.in_default.is at c.whole_token-used.ensures.reads in search (rules, reads_at_once)
 
 pub returns-in_default : goal.returns-in_default
 returns-in_default g c =
@@ -34,18 +32,7 @@ returns-in_default g c =
     passes c.whole_token-used.ensures.used (omega (arith, c.if-used-eq0.false))
 
 pub take-requires : goal.take-requires
-take-requires g c =
-    let behind = rw c.in-Some.is at c.whole_token-used.ensures.reads in
-    let sound = c.requires.sound in (
-      search current_alike,
-      (
-        c.requires.pending,
-        (
-          omega (arith, sound.few_plies refl, sound.count),
-          (omega (arith, sound.few refl, sound.count), behind.reads.lengths),
-        ),
-      ),
-    )
+take-requires g c = search (rules, current_alike)
 
 pub returns-in-Ok : goal.returns-in-Ok
 returns-in-Ok g c =

@@ -1,12 +1,10 @@
-use Rattle.pgn_game.proofs.Words.{◌≡◌, ◌-◌, ◌<◌, length, ◌∙◌, true, false, ap, sym, arith, suc, bytes_eq, index_of, pair_at, [], get_or_read}
+use Rattle.pgn_game.proofs.Words.{◌≡◌, ◌-◌, ◌<◌, length, ◌∙◌, true, false, ap, sym, arith, suc, bytes_eq, index_of, pair_at, [], get_or_read, rules}
 use Rattle.pgn_game.proofs.pairs.SortedPairs.{new-first, value-behind}
 use Rattle.pgn_game.proofs.pairs.ValuesByName.{bytes_eq-true}
 use Rattle.pgn_game.proofs.ordered.find.Goals as goal
 
 pub returns-then-behind-eq0 : goal.returns-then-behind-eq0
-returns-then-behind-eq0 c =
-    let index = c.index_of-behind.ensures in
-    record { new = new-first _ _ index.order (sym index.index ∙ c.if-behind-eq0.true); place = sym c.if-behind-eq0.true ∙ index.index }
+returns-then-behind-eq0 c = search (rules, new-first)
 
 pub returns-then-eq : goal.returns-then-eq
 returns-then-eq c =
@@ -18,12 +16,7 @@ returns-then-eq c =
     let within : c.index_of-behind.result - 1 < length pairs = omega (arith, index.within, c.if-behind-eq0.false) in
     let same : bytes_eq p.name name ≡ true = ap (λ n. bytes_eq n name) (sym c.name.ensures.name) ∙ sym c.eq.ensures ∙ c.if-eq.true in
     let there : p ≡ pair_at pairs (c.index_of-behind.result - 1) = get_or_read pairs _ p within c.at.ensures (record { name = []; value = [] }) in
-    let value = value-behind name pairs _ index.order suc_at c.at.ensures in
-    record {
-      within = within;
-      named = rw (← there) (bytes_eq-true p.name name same);
-      value = rw (value, same, ← there);
-    }
+    let value = value-behind name pairs _ index.order suc_at c.at.ensures in search (rules, bytes_eq-true)
 
 pub returns : goal.returns
 returns c =

@@ -1,4 +1,4 @@
-use Rattle.pgn_game.proofs.Words.{sym, ap, ◌∙◌, ◌≡◌, arith, Mode, Full, Reduced, Pair, List, ℕ, Some, slice_get, known_result, missing_of, exported, roster_pairs}
+use Rattle.pgn_game.proofs.Words.{sym, ap, ◌∙◌, ◌≡◌, Mode, Full, Reduced, Pair, List, ℕ, Some, slice_get, known_result, missing_of, exported, roster_pairs, rules}
 use Rattle.pgn_game.proofs.pairs.SectionByIndex.{default_or, full_behind, full_front, in_roster_by, reduced_behind}
 use Rattle.pgn_game.proofs.section.exported_pair.Goals as goal
 
@@ -15,11 +15,7 @@ returns-then-index-lt7 c =
     (sym (default_or c.value_in.result _ _ _ c.unwrap_or.ensures c.value_in.ensures.value)))
 
 pub returns-in-Reduced : goal.returns-in-Reduced
-returns-in-Reduced c =
-    rw c.in-Reduced.is
-    (sym (reduced_behind (known_result (missing_of c.args.missing_result)) c.args.pairs.now c.args.index (omega (arith, c.if-index-lt7.false))))
+returns-in-Reduced c = search (rules, reduced_behind)
 
 pub returns-in-Full : goal.returns-in-Full
-returns-in-Full c =
-    rw (c.in-Full.is, c.other_pair.ensures)
-    (sym (full_behind (known_result (missing_of c.args.missing_result)) c.args.pairs.now c.args.index _ (omega (arith, c.if-index-lt7.false))))
+returns-in-Full c = search (rules, full_behind)

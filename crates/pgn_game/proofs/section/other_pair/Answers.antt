@@ -1,13 +1,10 @@
-use Rattle.pgn_game.proofs.Words.{◌≡◌, ◌-◌, sym, ap, ◌∙◌, arith, List, Pair, slice_get, has_pair, true, codes}
+use Rattle.pgn_game.proofs.Words.{◌≡◌, ◌-◌, sym, ap, ◌∙◌, arith, List, Pair, slice_get, has_pair, true, codes, rules}
 use Rattle.pgn_game.specs.steps.SectionPairs.{others}
 use Rattle.pgn_game.proofs.pairs.SectionByIndex.{about_behind, about_front, about_here, both_sides, found_pair, others_without_fen}
 use Rattle.pgn_game.proofs.section.other_pair.Goals as goal
 
 pub returns-then-not-has_fen : goal.returns-then-not-has_fen
-returns-then-not-has_fen c =
-    rw c.ok.ensures.value
-    (found_pair _ c.args.index _ c.nth_pair.ensures
-    ∙ ap (λ (ps : List Pair). slice_get ps c.args.index) (others_without_fen c.args.pairs.now (sym c.requires ∙ c.if-not-has_fen.true)))
+returns-then-not-has_fen c = search (rules, found_pair, others_without_fen)
 
 pub returns-in-Ok : goal.returns-in-Ok
 returns-in-Ok c =

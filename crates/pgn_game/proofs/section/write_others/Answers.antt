@@ -1,5 +1,6 @@
 use Rattle.pgn_game.proofs.Words.{◌≡◌, ℕ, true, List, ◌++◌, take, drop, refl, ap, sym, ◌∙◌, codes, err_from_is_err_and, Appends-trans, one_more, tag_line, index_of, Pair, has_pair, text_by, other_line, other_pairs, tag_lines, with_set_up, arith, rules}
-use Rattle.pgn_game.proofs.putting.WritesInTurn.{counts_behind, front_of_more, front_after, Writes-append}
+use Rattle.pgn_game.proofs.putting.WritesInTurn.{counts_behind}
+use Rattle.pgn_layout.proofs.OneWriteMore.{front_of_more, front_after, Writes-append}
 use Rattle.pgn_game.proofs.pairs.SectionByLines.{lines_about, lines_with_fen, lines_without_fen}
 use Rattle.pgn_game.proofs.section.write_others.Goals as goal
 

@@ -1,5 +1,6 @@
 use Rattle.pgn_game.proofs.Words.{◌∙◌, ap, err_from_is_err_and, Appends-trans, one_more, missing_of, known_result, rules}
-use Rattle.pgn_game.proofs.putting.WritesInTurn.{counts_behind, front_of_more, front_after, Writes-append}
+use Rattle.pgn_game.proofs.putting.WritesInTurn.{counts_behind}
+use Rattle.pgn_layout.proofs.OneWriteMore.{front_of_more, front_after, Writes-append}
 use Rattle.pgn_game.proofs.pairs.SectionByLines.{reduced_section, full_section, roster_first}
 use Rattle.pgn_game.proofs.section.write_section.Goals as goal
 

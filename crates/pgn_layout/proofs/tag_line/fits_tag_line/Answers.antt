@@ -1,5 +1,5 @@
 use Rattle.std.proofs.lemmas.Grind.{common_steps}
-use Rattle.std.proofs.Common.{◌+◌, arith, refl}
+use Rattle.std.proofs.Common.{arith}
 use Rattle.pgn_layout.proofs.EscapedBytes.{length_escaped-take, length_escaped-front, length_escaped-le}
 use Rattle.pgn_layout.proofs.tag_line.fits_tag_line.Goals as goal
 

@@ -1,5 +1,5 @@
 use Rattle.pgn_tool.proofs.Words.{◌∙◌, ap, decimal}
-use Rattle.pgn_tool.proofs.runs.PartsOfText.{line_told}
+use Rattle.pgn_tool.proofs.runs.LineOfGame.{line_told}
 use Rattle.pgn_tool.proofs.list.list_game.Goals as goal
 
 pub returns-clause-written : goal.returns-clause-written

@@ -1,4 +1,4 @@
-use Rattle.pgn_game.proofs.Words.{◌≡◌, ◌∙◌, ◌+◌, ℕ, ap, arith, refl, Bool, true, false, Option, None, Ok, Err, List, Profile, Token, Fault, Result, Reading, Device, ReadsToGameEnd, AfterGameEnd, StandsBetween, device, no_sink}
+use Rattle.pgn_game.proofs.Words.{◌≡◌, ◌∙◌, ℕ, ap, arith, Bool, true, false, Option, None, Ok, Err, List, Profile, Token, Fault, Result, Reading, Device, ReadsToGameEnd, AfterGameEnd, StandsBetween, device, no_sink, rules}
 use Rattle.pgn_game.specs.steps.Readings.{reading_of}
 use Rattle.pgn_game.proofs.ReaderFitsInMemory.{reading_fits_converter}
 use Rattle.pgn_game.proofs.twice.FailuresOfSteps.{no_write, seen_none}
@@ -61,11 +61,7 @@ returns-then-finished g c =
           let to = after g place (Ok true) is (rw (← c.self.view_is) at quiet) q left_old given (rw (← c.self.view_is) at stands) in
           game_read q left_old _ _ given (old g place) (new g place) None None None (rw (← c.self.view_is) at stands.has_given) to.0 to.1 to.2 to.3 to.4
           all.games all.finished c.placed_marker.result c.placed_marker.ensures.marker c.placed_marker.ensures.place;
-      going = (
-        record { no_fault = all.fault; not_finished = all.finished },
-        all.games ∙ ap (λ (r : Reading). r.converter.games + 1) c.self.view_is,
-        rw (← c.self.view_is) (all.few refl),
-      );
+      going = search rules;
       silent = silent g place;
       counted = all.counted;
     }

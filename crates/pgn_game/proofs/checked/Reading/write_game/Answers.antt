@@ -1,4 +1,4 @@
-use Rattle.pgn_game.proofs.Words.{◌≡◌, ◌∙◌, ℕ, ap, arith, refl, Bool, true, false, Option, Some, Ok, Err, List, Profile, Token, Fault, Result, Reading, Converter, Device, HasGiven, KeepsSilence, ReadsToGameEnd, AfterGameEnd, StandsBetween, device, sink_of, CountsResult}
+use Rattle.pgn_game.proofs.Words.{◌≡◌, ◌∙◌, ℕ, ap, arith, refl, Bool, true, false, Option, Some, Ok, Err, List, Profile, Token, Fault, Result, Reading, Converter, Device, HasGiven, KeepsSilence, ReadsToGameEnd, AfterGameEnd, StandsBetween, device, sink_of, CountsResult, rules}
 use Rattle.pgn_game.specs.steps.Readings.{reading_of}
 use Rattle.pgn_game.proofs.ReaderFitsInMemory.{reading_fits_converter}
 use Rattle.pgn_game.proofs.putting.SilentReader.{seen_alike, silence_then, unseen}
@@ -50,11 +50,7 @@ module _ (g : _) (c : After-read_to_game_end-read g) where
     after : c.self.inside.converter.reading.writing.is_silent ≡ false → (q : Profile) (left_old : Option (List ℕ)) (given : List Token)
         → (stands : StandsBetween q left_old source.before given old)
         → AfterGameEnd (start_at q announced given sink.before (Some c.args.expected)) left_old source.after new r sink.after
-    after writes q left_old given stands =
-        let going = rw (← c.self.view_is) at c.requires.going in
-        (unseen (λ d. ReadsToGameEnd announced new r source d) _ sink (same ∙ writes) all).reads _ left_old (has q left_old given stands).bytes
-        (begins_second q left_old source.before announced given sink.before (has q left_old given stands)
-        (rw c.announce_marker.ensures (record { no_fault = going.no_fault; not_finished = going.not_finished })) c.args.expected told)
+    after writes q left_old given stands = search (rules, unseen, all, has, begins_second, told)
 
     counted : CountsResult r source (sink_of c.self.inside.converter.reading g.W.Sink.taken g.W.Sink.failures c.args.out.now c.read_to_game_end-read.new.out)
     counted = seen_alike (CountsResult r source) _ _ sink same all.counted

@@ -1,4 +1,4 @@
-use Rattle.pgn_game.proofs.Words.{sym, subst, CountsMissingAs, refl}
+use Rattle.pgn_game.proofs.Words.{sym, subst, CountsMissingAs, rules}
 use Rattle.pgn_game.proofs.ReaderFitsInMemory.{fits_game}
 use Rattle.pgn_game.proofs.stepping.MissingCountsAs.{finished_alike, sound_counting, stands_counting}
 use Rattle.pgn_game.proofs.converter.Converter.count_missing_result_as.Goals as goal
@@ -7,9 +7,7 @@ pub count_missing_result_as-requires : goal.count_missing_result_as-requires
 count_missing_result_as-requires g c = search fits_game
 
 pub returns-clause-only_profile : goal.returns-clause-only_profile
-returns-clause-only_profile g c =
-    let old = c.self.inside in
-    rw (← c.self.view_is, c.count_missing_result_as.ensures, finished_alike old.has_finished_game c.args.marker old.game) refl
+returns-clause-only_profile g c = search (rules, finished_alike)
 
 pub returns-clause-stands : goal.returns-clause-stands
 returns-clause-stands g c =

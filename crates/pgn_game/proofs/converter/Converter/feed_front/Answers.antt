@@ -1,4 +1,4 @@
-use Rattle.pgn_game.proofs.Words.{KeepsSilence, ◌≡◌, ◌+◌, ◌∙◌, Ok, false, true, ap, arith, drop, length-drop, refl, sink_of, take_rest}
+use Rattle.pgn_game.proofs.Words.{KeepsSilence, ◌≡◌, ◌+◌, ◌∙◌, Ok, false, true, ap, drop, length-drop, refl, sink_of, take_rest, rules}
 use Rattle.pgn_game.specs.steps.Flow.{StepsIn}
 use Rattle.pgn_game.proofs.ReaderFitsInMemory.{fits_alike}
 use Rattle.pgn_game.proofs.flow.InTurn.{goes_none, steps_then}
@@ -34,9 +34,7 @@ loop-at-preserved g c =
     record { reads = (rw is at (steps g after)).reads; silent = silent g after }
 
 pub loop-at-smaller : goal.loop-at-smaller
-loop-at-smaller g c =
-    let step = rw c.in-Ok.is at (step g (goal.at.loop-at-smaller g c).After-step-step) in
-    omega (arith, step.nearer, step.reads.goes.within, length-drop c.loop-at.at c.args.piece.now, c.loop-at-test.true)
+loop-at-smaller g c = search (rules, After-step-step, length-drop)
 
 pub returns-in-Err-clause-reads : goal.returns-in-Err-clause-reads
 returns-in-Err-clause-reads g c = (rw c.in-Err.is at (steps g ((goal.at.returns-in-Err-clause-reads g c).After-step-step))).reads
@@ -55,6 +53,4 @@ pub returns-then-finished-clause-silent : goal.returns-then-finished-clause-sile
 returns-then-finished-clause-silent g c = silent g ((goal.at.returns-then-finished-clause-silent g c).After-step-step)
 
 pub overflow_add-at : goal.overflow_add-at
-overflow_add-at g c =
-    let used = rw take_rest at c.step-step.ensures.steps.reads.goes.within in
-    omega (arith, used, c.requires.short, length-drop c.loop-at.at c.args.piece.now, c.loop-at-test.true)
+overflow_add-at g c = search (rules, take_rest, length-drop)

@@ -1,4 +1,4 @@
-use Rattle.pgn_game.proofs.Words.{◌≡◌, ◌+◌, ◌-◌, ◌^◌, ◌<◌, ◌∙◌, ℕ, [], Ok, false, true, length, length-take, take, arith, ap, sym, refl, common_steps, Converter}
+use Rattle.pgn_game.proofs.Words.{◌≡◌, ◌+◌, ◌-◌, ◌^◌, ◌<◌, ◌∙◌, ℕ, [], Ok, false, true, length, length-take, take, arith, ap, sym, refl, common_steps, Converter, rules}
 use Rattle.pgn_game.proofs.ReaderFitsInMemory.{fits_alike}
 use Rattle.pgn_game.proofs.stepping.StepsAtEnd.{sound_at_none}
 use Rattle.pgn_game.proofs.stepping.StepsInPiece.{front_used, limit_left}
@@ -14,16 +14,11 @@ module _ (g : _) (c : After-feed_front-step g) where
   room = omega (arith, c.place.ensures, c.self.invariant.count)
 
   few : c.self.inside.games < 2 ^ 64
-  few =
-      let no_fault = rw (← c.self.view_is) at c.requires.no_fault in
-      omega (arith, c.self.invariant.count, c.self.invariant.few no_fault)
+  few = search rules
 
   -- a byte is read
   some : 0 < length (take n c.args.piece.now)
-  some =
-      let empty = c.is_empty.ensures in
-      let not_empty = c.if-is_empty.false in
-      rw (← c.within_limit-front.ensures) (grind (arith, common_steps, empty, not_empty))
+  some = search rules
 
 pub invariant_of-self : goal.invariant_of-self
 invariant_of-self g c = sound_at_none _ _ _ _ _ _ c.self.invariant
@@ -96,11 +91,7 @@ feed_front-step-requires g c =
     let not_empty = c.if-is_empty.false in (
       search fits_alike,
       record {
-        before = record {
-          no_fault = rw (← c.self.view_is) at c.requires.no_fault;
-          not_finished = rw (← c.self.view_is) at c.requires.not_finished;
-          none_just_finished = refl;
-        };
+        before = search rules;
         some = grind (arith, common_steps, empty, not_empty);
         short = omega (arith, front, length-take (2 ^ 62 - c.place.result) c.args.piece.now, c.place.ensures, c.self.invariant.count);
       },

@@ -1,4 +1,4 @@
-use Rattle.pgn_game.proofs.Words.{arith, false≢true, inl, inr, nat_lt, ◌≡◌, ◌∙◌, ap, sym, refl, le_refl, le_trans, true, Ok, Err, None, false, Device, device, err_from_is_err_and, Converter, sink_of}
+use Rattle.pgn_game.proofs.Words.{arith, false≢true, inl, inr, nat_lt, ◌≡◌, ◌∙◌, ap, sym, refl, le_refl, le_trans, true, Ok, Err, None, false, Device, device, err_from_is_err_and, Converter, sink_of, rules}
 use Rattle.pgn_game.specs.steps.Flow.{GoesAtEnd, ReadsOn}
 use Rattle.pgn_game.proofs.ReaderFitsInMemory.{fits_alike}
 use Rattle.pgn_game.proofs.putting.SilentReader.{seen_alike, silence_kept, silence_then}
@@ -20,13 +20,7 @@ loop-self-init g c =
     })
 
 pub step_at_end-requires : goal.step_at_end-requires
-step_at_end-requires g c = (
-  search fits_alike,
-  record {
-    no_fault = c.loop-self.invariant.no_fault;
-    not_finished = sym (ap (λ (s : Converter). s.is_finished) c.self-in-loop-self.view_is) ∙ c.loop-self-test.true;
-  },
-)
+step_at_end-requires g c = search (rules, fits_alike)
 
 -- the step, as the call sees the sink
 module _ (g : _) (c : After-step_at_end g) where

@@ -1,4 +1,4 @@
-use Rattle.pgn_game.proofs.Words.{Bool, Converter, IsSound, KeepsSilence, Err, Reason, GameState, Result, false, true, sink_of, kind_of, ◌≡◌, ◌∙◌, arith, ap, subst, Ok, take_rest, device, drop, refl}
+use Rattle.pgn_game.proofs.Words.{Bool, Converter, IsSound, KeepsSilence, Err, Reason, Result, false, true, sink_of, kind_of, ◌≡◌, ◌∙◌, arith, ap, subst, Ok, take_rest, drop, refl, rules}
 use Rattle.pgn_game.specs.steps.Flow.{HasTakenToken, ReadsIn, StepsIn, settled, taken_at}
 use Rattle.pgn_game.specs.steps.TokenTaken.{TakesPlaced}
 use Rattle.pgn_game.proofs.ReaderFitsInMemory.{fits_alike, fits_game}
@@ -44,17 +44,12 @@ module _ (g : _) (c : After-take_entry g) where
   alike = ap (λ (s : Converter). s.reading.writing.is_silent) c.self.view_is ∙ c.loop-used.invariant.silent.silent
 
   silent : KeepsSilence c.args.self.now.reading c.take_entry.new.self c.args.out.now c.take_entry.new.out
-  silent =
-      silence_then _ _ _ _ _ _ c.loop-used.invariant.silent
-      (subst (λ (r : GameState). KeepsSilence r c.take_entry.new.self c.loop-used.out c.take_entry.new.out) (ap (λ (s : Converter). s.reading) c.self.view_is)
-      c.take_entry.ensures.silent)
+  silent = search (rules, silence_then)
 
   module _ (taken : Result Bool Reason) (is : c.take_entry.result ≡ taken) where
     takes : TakesPlaced c.self.inside.game (kind_of c.in-Some.token.kind) c.in-Some.token.at c.take_entry.new.self taken
         (sink_of c.args.self.now.reading g.W.Sink.taken g.W.Sink.failures c.loop-used.out c.take_entry.new.out)
-    takes =
-        seen_alike (λ d. TakesPlaced c.self.inside.game (kind_of c.in-Some.token.kind) c.in-Some.token.at c.take_entry.new.self taken d) _ _
-        (device g.W.Sink.taken g.W.Sink.failures c.loop-used.out c.take_entry.new.out) alike (rw is at c.take_entry.ensures.takes)
+    takes = search (rules, seen_alike, alike)
 
     abbrev here : Converter
     here = now_at c.whole_token-count.new.self c.take_entry.new.self c.self.inside.games false
@@ -175,11 +170,7 @@ step_on-step-requires g c =
 
 -- and that it kept silence
 kept : (g : _) (c : Left-loop-used g) → KeepsSilence c.args.self.now.reading c.loop-used-test.self.reading c.args.out.now c.loop-used.out
-kept g c =
-    elim c.loop-used-test.branch [
-      | else-loop-used-test w ↦ rw w.self-is c.loop-used.invariant.silent
-      | then-loop-used-test+in_default w ↦ rw w.self-is (rw (← w.self.view_is) at c.loop-used.invariant.silent)
-    ]
+kept g c = search (rules, else-loop-used-test, then-loop-used-test+in_default)
 
 pub returns-then-used-piece-clause-silent : goal.returns-then-used-piece-clause-silent
 returns-then-used-piece-clause-silent g c = kept g (goal.at.returns-then-used-piece-clause-silent g c).Left-loop-used

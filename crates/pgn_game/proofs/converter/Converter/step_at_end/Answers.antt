@@ -1,4 +1,4 @@
-use Rattle.pgn_game.proofs.Words.{◌≡◌, ◌∙◌, Ok, Err, None, true, false, arith, refl, sym, ap, kind_of, Result, Bool, Reason, sink_of}
+use Rattle.pgn_game.proofs.Words.{◌≡◌, ◌∙◌, Ok, Err, None, true, false, arith, refl, sym, ap, kind_of, Result, Bool, Reason, sink_of, rules}
 use Rattle.pgn_lexer.specs.Scanned.{token}
 use Rattle.pgn_game.proofs.ReaderFitsInMemory.{fits_game}
 use Rattle.pgn_game.proofs.putting.SilentReader.{silence_kept}
@@ -83,37 +83,10 @@ returns-in-Err-clause-goes g c =
     })
 
 pub returns-then-finished-clause-goes : goal.returns-then-finished-clause-goes
-returns-then-finished-clause-goes g c =
-    let after = (goal.at.returns-then-finished-clause-goes g c).After-take_copied in
-    let read : c.take_copied.result ≡ Ok c.in-Ok.finished = c.in-Ok.is in
-    let took = takes g after (Ok true) (read ∙ ap Ok c.if-finished.true) in
-    let near = rw (marker_or_end _ took.takes.finished.0) at (nearer_by _ _ _ _ (gives g after).count (gives g after).closes) in
-    rw (← c.self.view_is, going g after, none g after, c.if-finished.true) (record {
-      count = (gives g after).count;
-      nearer = omega (arith, near.0);
-      games = refl;
-      kept = refl;
-      unfinished = refl;
-      fault = refl;
-      probes = took.takes.keeps.probes;
-      counted = took.takes.counted;
-    })
+returns-then-finished-clause-goes g c = search (rules, After-take_copied, takes, marker_or_end, nearer_by, gives, going)
 
 pub returns-else-finished-clause-goes : goal.returns-else-finished-clause-goes
-returns-else-finished-clause-goes g c =
-    let after = (goal.at.returns-else-finished-clause-goes g c).After-take_copied in
-    let read : c.take_copied.result ≡ Ok c.in-Ok.finished = c.in-Ok.is in
-    let took = takes g after (Ok false) (read ∙ ap Ok c.if-finished.false) in
-    rw (← c.self.view_is, going g after, none g after, c.if-finished.false) (record {
-      count = (gives g after).count;
-      nearer = nearer_end _ _ c.is_end-is_end.result (rw (sym c.is_end-is_end.ensures) at (nearer_by _ _ _ _ (gives g after).count (gives g after).closes));
-      games = omega arith;
-      kept = kept_or_none c.self.inside.game c.take_copied.new.self c.self.inside.has_finished_game c.is_between.result took.stays.0 c.is_between.ensures.1;
-      unfinished = tt;
-      fault = refl;
-      probes = took.keeps.probes;
-      counted = took.counted;
-    })
+returns-else-finished-clause-goes g c = search (rules, After-take_copied, takes, going, gives, nearer_end, nearer_by, kept_or_none)
 
 pub invariant_of-self-then-finished : goal.invariant_of-self-then-finished
 invariant_of-self-then-finished g c =

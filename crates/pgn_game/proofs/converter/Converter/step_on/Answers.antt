@@ -1,4 +1,4 @@
-use Rattle.pgn_game.proofs.Words.{arith, refl}
+use Rattle.pgn_game.proofs.Words.{arith, refl, rules}
 use Rattle.pgn_game.proofs.ReaderFitsInMemory.{fits_alike, fits_game}
 use Rattle.pgn_game.proofs.flow.StepsIn.{has_taken, sound_taken, steps_fault, steps_more, steps_of, steps_taken}
 use Rattle.pgn_game.proofs.putting.SilentReader.{silence_kept}
@@ -47,25 +47,14 @@ returns-in-Fault-clause-steps g c =
     (steps_fault _ _ _ _ c.requires.some c.next-scan.ensures.used c.in-Fault.fault (rw c.in-Fault.is at c.next-scan.follows.holds-at-none) _ _))
 
 pub invariant_of-self : goal.invariant_of-self
-invariant_of-self g c =
-    let old = fields_before c.self.view_is c.self.invariant c.requires.before in
-    rw (old.flag, old.none, old.not_over)
-    (sound_more _ _ _ _ old.sound (short_before c.self.view_is c.requires) c.next-scan.ensures.used c.requires.some
-    (rw c.in-NeedMore.is at c.next-scan.follows.holds-at-none))
+invariant_of-self g c = search (rules, fields_before, sound_more, short_before)
 
 pub invariant_of-self-in-Token : goal.invariant_of-self-in-Token
 invariant_of-self-in-Token g c =
-    let old = fields_before c.self.view_is c.self.invariant c.requires.before in
-    rw (old.flag, old.none, old.not_over)
-    (sound_taken _ _ _ _ c.requires.some c.next-scan.ensures.used (rw c.in-Token.is at c.next-scan.follows.holds-at-none) c.take_copied-taken.new.self _ old.sound
-    (short_before c.self.view_is c.requires) c.take_copied-taken.result c.take_copied-taken.ensures.takes)
+    let old = fields_before c.self.view_is c.self.invariant c.requires.before in search (rules, sound_taken, short_before)
 
 pub invariant_of-self-in-Fault : goal.invariant_of-self-in-Fault
-invariant_of-self-in-Fault g c =
-    let old = fields_before c.self.view_is c.self.invariant c.requires.before in
-    rw old.flag
-    (sound_behind_fault _ _ _ _ _
-    (omega (arith, c.next-scan.follows.holds-at-none.count, c.next-scan.ensures.used, short_before c.self.view_is c.requires)))
+invariant_of-self-in-Fault g c = search (rules, fields_before, sound_behind_fault, short_before)
 
 pub returns-in-NeedMore-clause-silent : goal.returns-in-NeedMore-clause-silent
 returns-in-NeedMore-clause-silent g c = rw (← c.self.view_is) (silence_kept _ _ _ refl)

@@ -1,4 +1,4 @@
-use Rattle.pgn_game.proofs.Words.{Bool, Err, Reason, Result, kind_of, true, ◌≡◌, ◌∙◌, ap, sink_of, IsSound, List, Option, ℕ, refl, None, false, ◌<◌, take_rest, IsTrue, Ok, false≢true, length, arith}
+use Rattle.pgn_game.proofs.Words.{Bool, Err, Reason, Result, kind_of, true, ◌≡◌, ◌∙◌, ap, sink_of, IsSound, List, Option, ℕ, refl, None, false, ◌<◌, take_rest, IsTrue, Ok, false≢true, length, arith, rules}
 use Rattle.pgn_game.specs.steps.Flow.{HasTakenToken, ReadsIn, StepsIn, settled, taken_at}
 use Rattle.pgn_game.specs.steps.TokenTaken.{TakesPlaced}
 use Rattle.pgn_game.proofs.ReaderFitsInMemory.{fits_alike, fits_game}
@@ -42,14 +42,7 @@ invariant_of-self g c = still_sound g (goal.at.invariant_of-self g c).In_default
 pub step_on-requires : goal.step_on-requires
 step_on-requires g c =
     let old = fields_before c.self.view_is c.self.invariant c.requires.before in
-    let goes = (passed g (goal.at.step_on-requires g c).In_default None 0).goes in (
-      search fits_alike,
-      rw (old.flag, old.none, old.not_over) (record {
-        before = record { no_fault = refl; not_finished = refl; none_just_finished = refl };
-        some = c.requires.some;
-        short = omega (arith, goes.count, short_before c.self.view_is c.requires, c.if-used-eq0.true);
-      }),
-    )
+    let goes = (passed g (goal.at.step_on-requires g c).In_default None 0).goes in search (rules, fits_alike, short_before)
 
 pub returns-then-used-eq0-clause-steps : goal.returns-then-used-eq0-clause-steps
 returns-then-used-eq0-clause-steps g c =

@@ -1,4 +1,4 @@
-use Rattle.pgn_game.proofs.Words.{sym, subst, StillStands, refl}
+use Rattle.pgn_game.proofs.Words.{sym, subst, StillStands, rules}
 use Rattle.pgn_game.proofs.ReaderFitsInMemory.{fits_game}
 use Rattle.pgn_game.proofs.stepping.MissingCountsAs.{finished_silently, sound_silently, stands_silently}
 use Rattle.pgn_game.proofs.converter.Converter.write_nothing.Goals as goal
@@ -7,9 +7,7 @@ pub write_nothing-requires : goal.write_nothing-requires
 write_nothing-requires g c = search fits_game
 
 pub returns-clause-only_switch : goal.returns-clause-only_switch
-returns-clause-only_switch g c =
-    let old = c.self.inside in
-    rw (← c.self.view_is, c.write_nothing.ensures, finished_silently old.has_finished_game old.game) refl
+returns-clause-only_switch g c = search (rules, finished_silently)
 
 pub returns-clause-stands : goal.returns-clause-stands
 returns-clause-stands g c =

@@ -1,4 +1,4 @@
-use Rattle.pgn_game.proofs.Words.{◌+◌, arith, ap, sym, refl}
+use Rattle.pgn_game.proofs.Words.{◌+◌, arith, ap, sym, refl, rules}
 use Rattle.pgn_game.specs.public.ItemsCalls.{Current}
 use Rattle.pgn_game.specs.declared.event.Event.TheVariants as events
 use Rattle.pgn_game.proofs.giving.CurrentFitsInMemory.{current_fits_reader}
@@ -39,7 +39,4 @@ returns-in_default g c =
     c.is_in_movetext-begun.result c.is_in_movetext-begun.ensures)
 
 pub returns-in-Err : goal.returns-in-Err
-returns-in-Err g c =
-    let same = c.self.view_is in
-    rw (ap (λ (x : Current). x.games) same)
-    (takes_refused _ _ _ c.args.self.now (sym (ap (λ (x : Current). x.reading) same)) c.self.inside.word.items c.in-Err.ensures)
+returns-in-Err g c = search (rules, takes_refused)

@@ -1,4 +1,4 @@
-use Rattle.pgn_game.proofs.Words.{◌≡◌, ◌∙◌, ℕ, List, false, Some, sym, refl, subst, inl, inr, le_refl, arith, marker_text}
+use Rattle.pgn_game.proofs.Words.{◌≡◌, ◌∙◌, false, Some, sym, refl, inr, le_refl, marker_text, rules}
 use Rattle.pgn_game.specs.steps.GameState.{expected_of, is_unexpected}
 use Rattle.pgn_game.proofs.ReaderLemmas.{reader_fits}
 use Rattle.pgn_game.proofs.putting.SilentReader.{silence_kept}
@@ -16,13 +16,7 @@ returns-then-is_unexpected g c =
           inr (record {
             text = marker_text c.args.marker;
             is = is;
-            unexpected = record {
-              other = sym c.is_unexpected.ensures ∙ c.if-is_unexpected.true;
-              why = refl;
-              keeps = record { profile = refl; writing = refl; plies = omega arith; probes = le_refl _ };
-              unwritten = refl;
-              still = refl;
-            };
+            unexpected = search (rules, le_refl);
           });
       silent = silence_kept _ _ _ refl;
     }
@@ -31,10 +25,7 @@ pub returns-in_err-end_game : goal.returns-in_err-end_game
 returns-in_err-end_game g c =
     let expected : is_unexpected (expected_of c.args.self.now) (marker_text c.args.marker) c.args.at ≡ false = sym c.is_unexpected.ensures ∙ c.if-is_unexpected.false in
     rw (error_returned _ c.from_residual.ensures.1) (record {
-      takes = λ k is. inl (
-        c.in_err-end_game.ensures.takes.takes k is,
-        λ text named failed. subst (λ (x : List ℕ). is_unexpected (expected_of c.args.self.now) x c.args.at ≡ false) (some_same (sym is ∙ named)) expected,
-      );
+      takes = search (rules, some_same);
       silent = c.in_err-end_game.ensures.silent;
     })
 

@@ -1,4 +1,4 @@
-use Rattle.pgn_game.proofs.Words.{inl, None, ◌≡◌, ap, arith, kind_of, refl, Event, Kind, Means, GameState, InMovetext, IsTrue, Bool, IsFound, IsPlayed, may_have_movetext, Move, ◌∙◌}
+use Rattle.pgn_game.proofs.Words.{inl, None, ◌≡◌, ap, arith, kind_of, refl, Event, Kind, Means, GameState, InMovetext, IsTrue, Bool, IsFound, IsPlayed, may_have_movetext, Move, ◌∙◌, rules}
 use Rattle.pgn_game.specs.declared.event.Event.TheVariants as events
 use Rattle.pgn_game.proofs.ReaderLemmas.{game_alike, reader_fits}
 use Rattle.pgn_game.proofs.putting.EventToGame.{is_close, is_comment_close, is_comment_open, is_glyph, is_open, is_word, sound_after, still_sound}
@@ -38,15 +38,7 @@ returns-in-Err g c =
     })
 
 pub end_game_at-requires : goal.end_game_at-requires
-end_game_at-requires g c =
-    let h = rw c.in-Ok-Marker.field-0-is at c.in-Ok-Marker.ensures in
-    (search game_alike, rw h.same (rw (← c.self.view_is) at c.requires.may).stage)
-
-pub returns-in-Ok-Marker : goal.returns-in-Ok-Marker
-returns-in-Ok-Marker g c =
-    let h = rw c.in-Ok-Marker.field-0-is at c.in-Ok-Marker.ensures in
-    let ends = rw h.same at c.end_game_at.ensures in
-    rw (← c.self.view_is) (record { takes = ends.takes (kind_of c.args.kind) h.is; silent = record { silent = ends.silent.silent; untouched = ends.silent.untouched } })
+end_game_at-requires g c = search (rules, game_alike)
 
 pub take_number-requires : goal.take_number-requires
 take_number-requires g c =

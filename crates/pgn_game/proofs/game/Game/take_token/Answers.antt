@@ -1,4 +1,4 @@
-use Rattle.pgn_game.proofs.Words.{◌≡◌, kind_of, None, Err, subst, arith, refl, inl, false≢true, game_by, Kind, Reason, WriteFault, GameState, CountsWrites, TakesUnwritten}
+use Rattle.pgn_game.proofs.Words.{◌≡◌, kind_of, None, Err, subst, arith, refl, inl, false≢true, game_by, Kind, Reason, WriteFault, GameState, CountsWrites, TakesUnwritten, rules}
 use Rattle.pgn_game.proofs.ReaderLemmas.{game_alike, reader_fits}
 use Rattle.pgn_game.proofs.putting.EventToGame.{still_sound}
 use Rattle.pgn_game.proofs.putting.TokenAtPlace.{entered}
@@ -41,10 +41,7 @@ returns-in_ok-result-in-Some g c =
 pub take-requires : goal.take-requires
 take-requires g c =
     let enters = c.in-None.ensures.takes c.self.inside.writer in
-    let few = rw (← c.self.view_is) at c.requires.few in (
-      search game_alike,
-      (record { few = omega (arith, few, enters.plies); stage = enters.stage }, (λ is. absurd (false≢true is), c.requires.token)),
-    )
+    let few = rw (← c.self.view_is) at c.requires.few in search (rules, game_alike, false≢true)
 
 pub returns-in-None : goal.returns-in-None
 returns-in-None g c =

@@ -1,6 +1,5 @@
-use Rattle.pgn_game.proofs.Words.{None, Option, ap, arith, sym, ◌∙◌}
-use Rattle.pgn_game.specs.declared.item.Item.{Item as CodeItem}
-use Rattle.pgn_game.specs.public.ItemsCalls.{Current, one_if}
+use Rattle.pgn_game.proofs.Words.{None, ap, sym, ◌∙◌, rules}
+use Rattle.pgn_game.specs.public.ItemsCalls.{Current}
 use Rattle.pgn_game.proofs.giving.CurrentFitsInMemory.{items_fit_current}
 use Rattle.pgn_game.proofs.giving.ItemsAhead.{lowers_from}
 use Rattle.pgn_game.proofs.giving.SourceToItems.{forgets, gives_next, gives_none, gives_nothing, gives_some}
@@ -22,10 +21,7 @@ returns-in-Some-clause-reads g c =
     (λ p u given have. gives_next _ c.in-Some.item is p u given _ (rw (← c.self.view_is) at have))
 
 pub returns-in-Some-clause-lowers : goal.returns-in-Some-clause-lowers
-returns-in-Some-clause-lowers g c =
-    let is = sym c.give_next.ensures.item ∙ c.in-Some.is in
-    rw (← c.self.view_is, c.give_next.ensures.current ∙ gives_some _ c.in-Some.item is)
-    (omega (arith, ap (λ (o : Option CodeItem). one_if o) is))
+returns-in-Some-clause-lowers g c = search (rules, gives_some)
 
 pub returns-in-Finished-clause-reads : goal.returns-in-Finished-clause-reads
 returns-in-Finished-clause-reads g c =
@@ -41,10 +37,7 @@ returns-in-SourceEnded-clause-reads g c =
     (rw current_is at c.next_at_end.ensures.gives) _ _ _ p u given (forgets _ none p u given _ (rw (← c.self.view_is) at have))
 
 pub returns-in-SourceEnded-clause-lowers : goal.returns-in-SourceEnded-clause-lowers
-returns-in-SourceEnded-clause-lowers g c =
-    let none = sym c.give_next.ensures.item ∙ c.in_default.is in
-    let current_is = c.forget_last.ensures ∙ ap (λ (x : Current). record x { last = None }) (c.give_next.ensures.current ∙ gives_nothing _ none) in
-    rw (← c.self.view_is) (lowers_from _ _ _ _ (rw current_is at c.next_at_end.ensures.lowers) (omega arith))
+returns-in-SourceEnded-clause-lowers g c = search (rules, gives_nothing, lowers_from)
 
 pub returns-in-Reading-clause-reads : goal.returns-in-Reading-clause-reads
 returns-in-Reading-clause-reads g c =
@@ -54,7 +47,4 @@ returns-in-Reading-clause-reads g c =
     (rw current_is at c.read_item.ensures.reads) p u given (forgets _ none p u given _ (rw (← c.self.view_is) at have))
 
 pub returns-in-Reading-clause-lowers : goal.returns-in-Reading-clause-lowers
-returns-in-Reading-clause-lowers g c =
-    let none = sym c.give_next.ensures.item ∙ c.in_default.is in
-    let current_is = c.forget_last.ensures ∙ ap (λ (x : Current). record x { last = None }) (c.give_next.ensures.current ∙ gives_nothing _ none) in
-    rw (← c.self.view_is) (lowers_from _ _ _ _ (rw current_is at c.read_item.ensures.lowers) (omega arith))
+returns-in-Reading-clause-lowers g c = search (rules, gives_nothing, lowers_from)

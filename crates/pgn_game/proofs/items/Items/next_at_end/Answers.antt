@@ -1,4 +1,4 @@
-use Rattle.pgn_game.proofs.Words.{◌∙◌, arith}
+use Rattle.pgn_game.proofs.Words.{◌∙◌, arith, rules}
 use Rattle.pgn_game.proofs.giving.ItemsAhead.{ahead_going}
 use Rattle.pgn_game.proofs.giving.SourceToItems.{rest_none}
 use Rattle.pgn_game.proofs.items.Items.next_at_end.Goals as goal
@@ -16,9 +16,7 @@ returns-in-Ok-Some-clause-gives g c = λ left n m p u given have.
     (rw (c.in-Ok-Some.is, c.in-Ok-Some.field-0-is) at c.take_at_end-is_end.ensures).after p u given left (c.loop-fault.invariant.rest p u given left have)
 
 pub returns-in-Ok-Some-clause-lowers : goal.returns-in-Ok-Some-clause-lowers
-returns-in-Ok-Some-clause-lowers g c =
-    let takes = rw (c.in-Ok-Some.is, c.in-Ok-Some.field-0-is) at c.take_at_end-is_end.ensures in
-    omega (arith, takes.lowers, ahead_going _ c.loop-fault.invariant.going, ahead_going _ c.requires.going, c.loop-fault.invariant.ahead)
+returns-in-Ok-Some-clause-lowers g c = search (rules, ahead_going)
 
 pub returns-then-is_end-clause-gives : goal.returns-then-is_end-clause-gives
 returns-then-is_end-clause-gives g c = λ left n m p u given have.

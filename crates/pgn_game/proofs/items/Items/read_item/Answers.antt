@@ -1,19 +1,11 @@
-use Rattle.pgn_game.proofs.Words.{ℕ, ap, arith, one_more, refl, subst, sym, ◌∙◌}
-use Rattle.pgn_game.specs.public.ItemsCalls.{GivesFault, Items, items_ahead, tokens_ahead}
+use Rattle.pgn_game.proofs.Words.{ℕ, ap, arith, one_more, refl, subst, sym, ◌∙◌, rules}
+use Rattle.pgn_game.specs.public.ItemsCalls.{GivesFault, Items, tokens_ahead}
 use Rattle.pgn_game.proofs.giving.ItemsAhead.{ahead_going, lowers_buffered, lowers_from}
 use Rattle.pgn_game.proofs.giving.SourceToItems.{after_more, filled, read_failed, rest_begins, so_far_none, took_fault, took_item, took_none}
 use Rattle.pgn_game.proofs.items.Items.read_item.Goals as goal
 
 pub loop-fault-init : goal.loop-fault-init
-loop-fault-init g c = record {
-  going = c.requires.going;
-  more = c.requires.more;
-  short = c.requires.short;
-  ahead = omega arith;
-  failures = refl;
-  text = refl;
-  reads = so_far_none _ _ c.requires.going c.requires.more;
-}
+loop-fault-init g c = search (rules, so_far_none)
 
 pub returns-in-Err-clause-reads : goal.returns-in-Err-clause-reads
 returns-in-Err-clause-reads g c = λ p u given have.
@@ -36,11 +28,7 @@ returns-in-Ok-false-clause-reads g c = λ p u given have.
     (c.next_at_end.ensures.gives _ _ _ p _ given (rest_begins p u given _ _ _ x _ _ c.symbols_stand_in_text.ensures ends.0 so.going so.short ends.1 ends.3))
 
 pub returns-in-Ok-false-clause-lowers : goal.returns-in-Ok-false-clause-lowers
-returns-in-Ok-false-clause-lowers g c =
-    let so = c.loop-fault.invariant in
-    let ends = rw c.in-Ok-false.field-0-test at c.in-Ok-false.ensures.more in
-    lowers_from _ _ _ _ c.next_at_end.ensures.lowers
-    (omega (arith, ap items_ahead ends.1, ahead_going _ so.going, ahead_going _ c.requires.going, so.ahead))
+returns-in-Ok-false-clause-lowers g c = search (rules, lowers_from, ahead_going)
 
 pub returns-in-Err-take_buffered-clause-reads : goal.returns-in-Err-take_buffered-clause-reads
 returns-in-Err-take_buffered-clause-reads g c = λ p u given have.
@@ -57,11 +45,7 @@ returns-in-Ok-Some-clause-reads g c = λ p u given have.
     (ap (λ (i : Items). i.has_read_all) fills.new_is ∙ so.more) (rw c.in-Ok-Some.field-0-is at c.in-Ok-Some.ensures)
 
 pub returns-in-Ok-Some-clause-lowers : goal.returns-in-Ok-Some-clause-lowers
-returns-in-Ok-Some-clause-lowers g c =
-    let so = c.loop-fault.invariant in
-    let fills = rw c.in-Ok-true.field-0-test at c.in-Ok-true.ensures.more in
-    let takes = rw c.in-Ok-Some.field-0-is at c.in-Ok-Some.ensures in
-    lowers_buffered _ _ _ c.in-Ok-Some.item c.requires.going takes (omega (arith, ap (λ (i : Items). tokens_ahead i.lexer) fills.new_is, so.ahead))
+returns-in-Ok-Some-clause-lowers g c = search (rules, lowers_buffered)
 
 pub loop-fault-preserved : goal.loop-fault-preserved
 loop-fault-preserved g c =

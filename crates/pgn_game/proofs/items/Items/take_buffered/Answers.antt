@@ -1,16 +1,11 @@
-use Rattle.pgn_game.proofs.Words.{ℕ, ◌-◌, ◌^◌, ◌<◌, List, length, length-take, arith, ap, sym, subst, ◌∙◌}
+use Rattle.pgn_game.proofs.Words.{ℕ, ◌-◌, ◌^◌, ◌<◌, List, length, length-take, arith, ap, subst, rules}
 use Rattle.pgn_game.proofs.giving.BufferToItems.{empty_if, some_if, stops_too_long, takes_fault, takes_on}
 use Rattle.pgn_game.proofs.giving.CurrentFitsInMemory.{items_fit_current}
 use Rattle.pgn_game.proofs.stepping.StepsAtEnd.{sound_behind_fault}
 use Rattle.pgn_game.proofs.items.Items.take_buffered.Goals as goal
 
 pub returns-then-is_empty : goal.returns-then-is_empty
-returns-then-is_empty g c =
-    let going = rw (← c.self.view_is) at c.requires.going in
-    let some = rw (← c.self.view_is) at c.requires.some in
-    let piece_is = rw (c.place.ensures, c.unused.ensures) at c.within_limit-piece.ensures in
-    rw (← c.self.view_is)
-    (stops_too_long _ going c.self.invariant.count some (ap length (sym piece_is) ∙ empty_if (length c.within_limit-piece.result.now) (c.if-is_empty.ensures)))
+returns-then-is_empty g c = search (rules, stops_too_long, empty_if)
 
 pub read_token-used-requires : goal.read_token-used-requires
 read_token-used-requires g c =
@@ -33,10 +28,7 @@ read_token-used-requires g c =
     )
 
 pub invariant_of-self-in-Err : goal.invariant_of-self-in-Err
-invariant_of-self-in-Err g c =
-    let piece_is = rw (c.place.ensures, c.unused.ensures) at c.within_limit-piece.ensures in
-    sound_behind_fault _ _ _ _ c.in-Err.fault
-    (omega (arith, c.read_token-used.ensures.count, c.read_token-used.ensures.within, ap length piece_is, length-take (2 ^ 62 - c.self.inside.lexer.count) c.self.inside.buffer, c.self.invariant.count))
+invariant_of-self-in-Err g c = search (rules, sound_behind_fault, length-take)
 
 pub returns-in-Ok : goal.returns-in-Ok
 returns-in-Ok g c =

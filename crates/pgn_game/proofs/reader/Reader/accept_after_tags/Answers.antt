@@ -1,4 +1,4 @@
-use Rattle.pgn_game.proofs.Words.{nat_le, or_else, None, ◌≡◌, length, true, false, refl, sym, ap, ◌∙◌, arith, le-leb, lt-leb, false≢true, kind_of, TokenKind, SetUpWithoutFen, TooManyTags, UnexpectedEnd, AfterLeftBracket, AfterTags, Part, TagPairs, refusal, next, GameState, Agrees, may_have_movetext, Writer, [], game_at, is_begun}
+use Rattle.pgn_game.proofs.Words.{nat_le, or_else, None, ◌≡◌, length, true, false, refl, sym, ap, ◌∙◌, arith, le-leb, lt-leb, false≢true, kind_of, TokenKind, SetUpWithoutFen, TooManyTags, UnexpectedEnd, AfterLeftBracket, AfterTags, Part, refusal, next, GameState, Agrees, may_have_movetext, Writer, [], game_at, is_begun, rules}
 use Rattle.pgn_game.specs.declared.mode.Written.TheVariants.{Nothing}
 use Rattle.pgn_game.proofs.ReaderLemmas.{tags_fit, hit, pass, textual, end_after_tags, open_refusal, open_next, refuses_set_up, entry_after_tags, lacks_of, part_stage, held_at, puts_left_bracket, to_stage, adds_same, counting_none, enters, refused_after, takes_step}
 use Rattle.pgn_game.proofs.reader.Reader.accept_after_tags.Given.{Over}
@@ -9,12 +9,7 @@ use Rattle.pgn_game.proofs.reader.Reader.accept_after_tags.Goals as goal
 opens : (g : Over) (c : In-LeftBracket g) (w : Writer) (held : GameState) → held ≡ c.args.self.now → (part : Part)
     → Agrees (game_at false w c.args.self.now) part
     → refusal c.args.self.now.profile part (kind_of c.args.kind) ≡ or_else (nat_le held.profile.tags (length held.tags.held)) TooManyTags None
-opens g c w held same part agrees =
-    let old = game_at false w c.args.self.now in
-    ap (λ (k : TokenKind). refusal old.profile part (kind_of k)) c.in-LeftBracket.is
-    ∙ open_refusal old.profile part (part_stage old part AfterTags agrees c.requires)
-    ∙ ap (λ (t : TagPairs). or_else (nat_le old.profile.tags (length t.held)) TooManyTags None) (sym (held_at old part AfterTags agrees c.requires))
-    ∙ ap (λ (r : GameState). or_else (nat_le r.profile.tags (length r.tags.held)) TooManyTags None) (sym same)
+opens g c w held same part agrees = search (rules, open_refusal, part_stage, held_at)
 
 pub returns-in-End : goal.returns-in-End
 returns-in-End g c = record {

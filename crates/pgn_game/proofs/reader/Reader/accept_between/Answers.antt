@@ -1,4 +1,4 @@
-use Rattle.pgn_game.proofs.Words.{◌≡◌, ◌||◌, Bool, true, refl, sym, ap, ◌∙◌, or_right, kind_of, is_comment, is_end, option_map, continued, false, game_at, is_begun}
+use Rattle.pgn_game.proofs.Words.{◌≡◌, ◌||◌, Bool, true, sym, ap, ◌∙◌, or_right, kind_of, is_comment, is_end, option_map, continued, false, game_at, rules}
 use Rattle.pgn_game.proofs.ReaderLemmas.{passes_first, takes_outside_first}
 use Rattle.pgn_game.proofs.reader.Reader.accept_between.Goals as goal
 use Rattle.pgn_game.proofs.reader.Reader.accept_between.Goals.{then-is_comment-via-then-is_comment, then-is_comment-via-else-is_comment+then-is_end}
@@ -9,11 +9,7 @@ returns-then-is_comment g c =
     let bare : (is_comment k || is_end k) ≡ true = elim c.then-is_comment.branch [
       | then-is_comment-via-then-is_comment w ↦ ap (λ (b : Bool). b || is_end k) (sym c.is_comment.ensures ∙ w.if-is_comment.true)
       | then-is_comment-via-else-is_comment+then-is_end w ↦ or_right (is_comment k) (is_end k) (sym w.is_end.ensures ∙ w.if-is_end.true)
-    ] in
-    record {
-      takes = λ w o m. passes_first (game_at false w c.args.self.now) _ c.args.kind o m refl c.requires.stage bare;
-      before = ap is_begun c.requires.stage;
-    }
+    ] in search (rules, passes_first)
 
 pub returns : goal.returns
 returns g c =

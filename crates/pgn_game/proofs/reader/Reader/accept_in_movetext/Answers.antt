@@ -1,4 +1,4 @@
-use Rattle.pgn_game.proofs.Words.{◌≡◌, refl, sym, subst, may_have_movetext, IsTrue, Event, Kind, Marker, Means, Ok, GameState, RefusesMarker, EndsAtMarker}
+use Rattle.pgn_game.proofs.Words.{◌≡◌, subst, Event, Kind, Marker, Means, Ok, GameState, RefusesMarker, EndsAtMarker, rules}
 use Rattle.pgn_game.proofs.ReaderLemmas.{reader_alike}
 use Rattle.pgn_game.specs.declared.event.Event.TheVariants as events
 use Rattle.pgn_game.specs.steps.Judged.{Judges}
@@ -7,28 +7,16 @@ use Rattle.pgn_game.proofs.reader.Reader.accept_in_movetext.Goals as goal
 
 -- what is no marker is one of the other events
 meant : (old : GameState) (k : Kind) (new : GameState) (e : Event) → ((m : Marker) → e ≡ events.Marker m → ⊥) → Judges old k new (Ok e) → Means old k new e
-meant old k new (events.Marker m) plain h = absurd (plain m refl)
-meant old k new events.Number plain h = h
-meant old k new (events.Move m n) plain h = h
-meant old k new (events.Glyph n) plain h = h
-meant old k new events.CommentOpen plain h = h
-meant old k new (events.Word text) plain h = h
-meant old k new events.CommentClose plain h = h
-meant old k new events.Open plain h = h
-meant old k new events.Close plain h = h
+meant old k new e plain h = search rules
 
 pub returns-in-Err : goal.returns-in-Err
 returns-in-Err g c = event_refused c.in-Err.ensures
 
 pub begin_movetext-requires : goal.begin_movetext-requires
-begin_movetext-requires g c =
-    let means = meant _ _ _ c.in-Ok.event c.in_default.not-Marker c.in-Ok.ensures in
-    (search reader_alike, subst (λ (r : GameState). IsTrue (may_have_movetext r.stage)) (sym means.after) c.requires.may.stage)
+begin_movetext-requires g c = search (rules, meant, reader_alike)
 
 pub end_game-requires : goal.end_game-requires
-end_game-requires g c =
-    let h = rw c.in-Marker.is at c.in-Ok.ensures in
-    (search reader_alike, subst (λ (r : GameState). IsTrue (may_have_movetext r.stage)) (sym h.same) c.requires.may.stage)
+end_game-requires g c = search (rules, reader_alike)
 
 pub returns-in-Err-end_game : goal.returns-in-Err-end_game
 returns-in-Err-end_game g c =

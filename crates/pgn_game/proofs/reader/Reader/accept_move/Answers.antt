@@ -1,4 +1,4 @@
-use Rattle.pgn_game.proofs.Words.{IsTrue, Movetext, Plays, GameState, ap, is_legal, marker_of, or_parts, refl, subst, sym, ◌∙◌, arith}
+use Rattle.pgn_game.proofs.Words.{Movetext, Plays, GameState, ap, marker_of, or_parts, refl, subst, ◌∙◌, rules}
 use Rattle.pgn_game.proofs.ReaderLemmas.{text_fits}
 use Rattle.pgn_game.proofs.putting.TokenToEvent.{move_means, move_refuses}
 use Rattle.pgn_game.proofs.reader.Reader.accept_move.Goals as goal
@@ -10,15 +10,7 @@ returns-in-Err g c =
     c.in-Err.reason c.in-Err.ensures
 
 pub play-requires : goal.play-requires
-play-requires g c =
-    let finds = c.in-Ok.ensures in
-    let text = ap (λ (r : GameState). r.text) (c.self.view_is ∙ finds.counted) in (
-      search text_fits,
-      (
-        subst (λ (t : Movetext). IsTrue (is_legal t.levels.current.position c.in-Ok.mv)) (sym text) finds.legal,
-        omega (arith, c.requires.may.few, ap (λ (t : Movetext). t.plies) text),
-      ),
-    )
+play-requires g c = search (rules, text_fits)
 
 pub returns-in-Ok : goal.returns-in-Ok
 returns-in-Ok g c =

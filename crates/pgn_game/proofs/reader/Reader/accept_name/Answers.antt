@@ -1,4 +1,4 @@
-use Rattle.pgn_game.proofs.Words.{IsFalse, Reason, Err, is_outside_the_table, ◌≡◌, has_pair, Part, Agrees, not, length, is_some, Some, refl, sym, ap, ◌∙◌, kind_of, TokenKind, ExpectedName, BadTagName, DuplicateTag, TagLineTooLong, ReducedFen, AfterLeftBracket, AfterName, TagPairs, next, refusal, GameState, JudgesInPair, Writer, false, game_at, is_begun}
+use Rattle.pgn_game.proofs.Words.{IsFalse, Reason, Err, is_outside_the_table, ◌≡◌, has_pair, Part, Agrees, not, length, is_some, Some, refl, sym, ap, ◌∙◌, kind_of, TokenKind, ExpectedName, BadTagName, DuplicateTag, TagLineTooLong, ReducedFen, AfterLeftBracket, AfterName, next, refusal, GameState, JudgesInPair, Writer, false, game_at, is_begun, rules}
 use Rattle.std.proofs.lemmas.Bool.{lt-ltb, le-ltb}
 use Rattle.pgn_game.proofs.ReaderLemmas.{name_rows, hit, pass, expected_name, name_refusal, name_next, part_stage, held_at, puts_name, to_name, adds_same, comment_in_pair, refused_in_pair, step_in_pair, tags_fit}
 use Rattle.pgn_game.proofs.reader.Reader.accept_name.Given.{Over}
@@ -8,13 +8,7 @@ use Rattle.pgn_game.proofs.reader.Reader.accept_name.Goals as goal
 -- What a name is rejected for, by the mode and the pairs that the reader holds.
 rows : (g : Over) (c : In-Symbol g) (w : Writer) (held : GameState) → held ≡ c.args.self.now → (part : Part) → Agrees (game_at false w c.args.self.now) part
     → refusal c.args.self.now.profile part (kind_of c.args.kind) ≡ name_rows held.profile held.tags.held c.in-Symbol.name.now
-rows g c w held same part agrees =
-    let old = game_at false w c.args.self.now in
-    let name = c.in-Symbol.name.now in
-    ap (λ (k : TokenKind). refusal old.profile part (kind_of k)) c.in-Symbol.is
-    ∙ name_refusal old.profile part name (part_stage old part _ agrees c.requires.stage)
-    ∙ ap (λ (t : TagPairs). name_rows old.profile t.held name) (sym (held_at old part _ agrees c.requires.stage))
-    ∙ ap (λ (r : GameState). name_rows r.profile r.tags.held name) (sym same)
+rows g c w held same part agrees = search (rules, name_refusal, part_stage, name_rows, held_at)
 
 refused : (g : Over) (c : In-Symbol g) (held : GameState) (reason : Reason) → held ≡ c.args.self.now → IsFalse (is_outside_the_table reason)
     → name_rows held.profile held.tags.held c.in-Symbol.name.now ≡ Some reason
@@ -68,17 +62,7 @@ returns-then-is_reduced_fen g c =
     ∙ hit _ _ _ (sym c.is_reduced_fen.ensures ∙ c.if-is_reduced_fen.true))
 
 pub begin-requires : goal.begin-requires
-begin-requires g c =
-    let sound = rw (ap (λ (r : GameState). r.stage) c.self.view_is ∙ c.requires.stage) at c.self.invariant.0 in (
-      search tags_fit,
-      record {
-        whole = sound.0;
-        room = sound.1;
-        fits = c.if-name-gt-NAME_OR_VALUE_LENGTH.false;
-        new = c.in-Err.ensures.new;
-        place = c.in-Err.ensures.place;
-      },
-    )
+begin-requires g c = search (rules, tags_fit)
 
 pub returns : goal.returns
 returns g c =

@@ -1,4 +1,4 @@
-use Rattle.pgn_game.proofs.Words.{refl, sym, ap, ◌∙◌, kind_of, TokenKind, ExpectedBracket, AfterTags, AfterValue, next, refusal, GameState, false, game_at, is_begun}
+use Rattle.pgn_game.proofs.Words.{refl, sym, ap, ◌∙◌, ExpectedBracket, AfterTags, AfterValue, GameState, false, game_at, is_begun, rules}
 use Rattle.pgn_game.proofs.ReaderLemmas.{expected_bracket, close_refusal, close_next, part_stage, puts_right_bracket, to_stage, adds_same, comment_in_pair, refused_in_pair, step_in_pair}
 use Rattle.pgn_game.proofs.reader.Reader.accept_right_bracket.Goals as goal
 
@@ -30,9 +30,6 @@ returns-in-RightBracket g c =
           step_in_pair old _ _ AfterValue c.requires.stage (λ q. refl) (to_stage AfterTags)
           (λ o m. puts_right_bracket old _ o m c.requires.stage (ap (λ (r : GameState). record (game_at false w r) { stage = AfterTags }) v))
           (ap (λ (r : GameState). r.most_probes) v) (λ part. search adds_same) (λ part agrees.
-          let at = part_stage old part AfterValue agrees c.requires.stage in (
-            ap (λ (k : TokenKind). refusal old.profile part (kind_of k)) c.in-RightBracket.is ∙ close_refusal old.profile part at,
-            ap (λ (k : TokenKind). next part (kind_of k)) c.in-RightBracket.is ∙ close_next part at,
-          ));
+          let at = part_stage old part AfterValue agrees c.requires.stage in search (rules, close_refusal, close_next));
       before = refl;
     }

@@ -1,4 +1,4 @@
-use Rattle.pgn_game.proofs.Words.{IsFalse, Err, Reason, is_outside_the_table, IsSome, None, ◌≡◌, ◌≤◌, ◌+◌, false, Some, IsTrue, ℕ, length, Bool, true, nat_lt, Option, refl, sym, ap, ◌∙◌, IsSomeAnd, is_ok, ltb-false, false≢true, escaped, kind_of, TokenKind, ExpectedValue, BadResult, BadFen, TagLineTooLong, AfterName, AfterValue, Part, refusal, next, GameState, Agrees, movetext_after_fen, true_from_ne_false, JudgesInPair, Movetext, Writer, game_at, is_begun}
+use Rattle.pgn_game.proofs.Words.{IsFalse, Err, Reason, is_outside_the_table, ◌≡◌, ◌≤◌, ◌+◌, false, Some, IsTrue, ℕ, length, Bool, true, nat_lt, refl, sym, ap, ◌∙◌, is_ok, ltb-false, false≢true, escaped, kind_of, TokenKind, ExpectedValue, BadResult, BadFen, TagLineTooLong, AfterName, AfterValue, Part, refusal, next, GameState, Agrees, movetext_after_fen, true_from_ne_false, JudgesInPair, Movetext, Writer, game_at, is_begun, rules}
 use Rattle.pgn_game.proofs.pairs.PairsToFirstPosition.{start_told}
 use Rattle.pgn_game.proofs.putting.TokenToEvent.{fen_alike}
 use Rattle.std.proofs.lemmas.Bool.{le-ltb}
@@ -11,15 +11,7 @@ use Rattle.pgn_game.proofs.reader.Reader.accept_value.Goals as goal
 rows : (g : Over) (c : After-pending_name-name g) (w : Writer) (part : Part) → Agrees (game_at false w c.args.self.now) part
     → (c.pending_name-name.result.now ≡ part.name)
     × (refusal c.args.self.now.profile part (kind_of c.args.kind) ≡ value_rows c.pending_name-name.result.now c.in-Str.value.now)
-rows g c w part agrees =
-    let old = game_at false w c.args.self.now in
-    let at = c.requires.stage in
-    let name = begun_name old.tags part _ (held_at old part _ agrees at).0
-    (sym (ap (λ (r : GameState). r.tags.pending_name) c.self.view_is) ∙ c.pending_name-name.ensures) in (
-      name,
-      ap (λ (k : TokenKind). refusal old.profile part (kind_of k)) c.in-Str.is ∙ value_refusal old.profile part _ (part_stage old part _ agrees at)
-          ∙ ap (λ n. value_rows n c.in-Str.value.now) (sym name),
-    )
+rows g c w part agrees = search (rules, begun_name, held_at, value_refusal, part_stage, value_rows)
 
 refused : (g : Over) (c : After-pending_name-name g) (reason : Reason) → IsFalse (is_outside_the_table reason)
     → value_rows c.pending_name-name.result.now c.in-Str.value.now ≡ Some reason
@@ -72,13 +64,7 @@ returns-then-not-fits_tag_line g c =
 -- The parts of the reader that change.
 
 pub complete-requires : goal.complete-requires
-complete-requires g c = (
-  search tags_fit,
-  (
-    rw c.pending_name-name.ensures (c.fits_tag_line.ensures.0 c.if-not-fits_tag_line.false),
-    rw c.pending_name-name.ensures (c.is_some.ensures ∙ start_told c.pending_name-name.result.now c.in-Str.value.now (sym c.fen_position.ensures ∙ c.in-Ok.is)),
-  ),
-)
+complete-requires g c = search (rules, tags_fit, start_told)
 
 pub begin_at-requires : goal.begin_at-requires
 begin_at-requires g c = search text_fits
@@ -109,11 +95,5 @@ returns g c =
       before = refl;
     }
 
-is_some : {A : Type 0} (P : A → Type 0) (o : Option A) → IsSomeAnd o P → IsSome o
-is_some P None h = absurd h
-is_some P (Some x) h = refl
-
 pub pending_name-name-requires : goal.pending_name-name-requires
-pending_name-name-requires g c =
-    let at = ap (λ (r : GameState). r.stage) c.self.view_is ∙ c.requires.stage in
-    (search tags_fit, is_some _ _ (rw at at c.self.invariant.0))
+pending_name-name-requires g c = search (rules, tags_fit)

@@ -1,4 +1,4 @@
-use Rattle.pgn_game.proofs.Words.{◌≡◌, ◌+◌, [], None, ap, refl, AfterTags, first_position, movetext_from, GameState, initial}
+use Rattle.pgn_game.proofs.Words.{◌≡◌, refl, first_position, initial, rules}
 use Rattle.pgn_game.proofs.ReaderPartsFitInMemory.{tags_fit, text_fits}
 use Rattle.pgn_game.proofs.reader.Reader.begin_game.Goals as goal
 
@@ -7,14 +7,7 @@ unfolding first_position
 is_first = refl
 
 pub returns : goal.returns
-returns g c =
-    rw (c.clear.ensures, c.begin.ensures, c.initial.ensures, is_first, c.plies.ensures)
-    (ap (λ (r : GameState). record r {
-      stage = AfterTags;
-      tags = record { held = []; pending_name = None };
-      text = movetext_from first_position;
-      earlier_plies = r.earlier_plies + r.text.plies;
-    }) c.self.view_is)
+returns g c = search (rules, is_first)
 
 pub plies-requires : goal.plies-requires
 plies-requires g c = search text_fits

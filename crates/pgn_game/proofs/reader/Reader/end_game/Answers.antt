@@ -1,4 +1,4 @@
-use Rattle.pgn_game.proofs.Words.{IsOpen, Part, GameState, TagPairs, Writer, game_by, ◌≡◌, Bool, true, false, length, refl, sym, ap, ◌∙◌, arith, codes, le-leb, Between, value_of, marker_text, depth, levels_of_part, result_for, Marker}
+use Rattle.pgn_game.proofs.Words.{IsOpen, Part, GameState, Writer, game_by, ◌≡◌, Bool, true, false, length, refl, sym, ap, ◌∙◌, arith, codes, le-leb, Between, value_of, marker_text, depth, levels_of_part, result_for, Marker, rules}
 use Rattle.pgn_game.proofs.ReaderLemmas.{tags_fit, text_fits, no_name, depth_is, marker_inside, marker_differs, marker_free, none_around, test_of, differs}
 use Rattle.pgn_game.proofs.reader.Reader.end_game.Given.{Over}
 use Rattle.pgn_game.proofs.reader.Reader.end_game.Goals.{After-ne}
@@ -11,12 +11,7 @@ record Tested (old : GameState) (marker : Marker) (other : Bool) : Type 0 where
       (value_of part.pairs (codes "Result")) (marker_text marker) ≡ other
 
 tested : (g : Over) (c : After-ne g) (other : Bool) → c.ne.result ≡ other → Tested c.args.self.now c.args.marker other
-tested g c other test =
-    rw (← c.self.view_is) (record {
-      none = omega (arith, c.depth.ensures.value, c.if-depth-gt0.false);
-      result = λ w part op. test_of c.self.inside.tags.held c.value.result _ c.unwrap_or.result _ _ other _ (ap (λ (t : TagPairs). t.held) op.pairs)
-          c.value.ensures.value c.text_at-missing.ensures c.unwrap_or.ensures (sym test ∙ (rw c.text.ensures.text at c.ne.ensures));
-    })
+tested g c other test = search (rules, test_of)
 
 pub returns-then-depth-gt0 : goal.returns-then-depth-gt0
 returns-then-depth-gt0 g c =

@@ -1,4 +1,4 @@
-use Rattle.pgn_game.proofs.Words.{Annotates, IsOpen, Movetext, None, Open, Part, GameState, Writer, game_by, nat_le, or_else, subst, text_refusal, ◌≡◌, ◌-◌, length, not, refl, sym, ap, ◌∙◌, arith, is_some, le-leb, lt-leb, NoMoveBefore, TooDeep, left_paren}
+use Rattle.pgn_game.proofs.Words.{IsOpen, None, Part, GameState, Writer, game_by, nat_le, or_else, text_refusal, ◌≡◌, ◌-◌, length, not, refl, sym, ap, ◌∙◌, arith, is_some, le-leb, lt-leb, NoMoveBefore, TooDeep, left_paren, rules}
 use Rattle.pgn_game.proofs.ReaderLemmas.{hit, pass, holds_is, depth_is}
 use Rattle.pgn_game.proofs.ReaderPartsFitInMemory.{text_fits}
 use Rattle.pgn_game.proofs.putting.TokenToEvent.{entry_refuses, none_tried}
@@ -23,20 +23,7 @@ returns-then-depth g c =
     (λ part. refl)
 
 pub returns : goal.returns
-returns g c =
-    let old = c.args.self.now in
-    let fits = lt-leb (g.row.L - 1) (length c.self.inside.levels.levels.around) (omega (arith, c.if-depth.false, c.depth.ensures.value)) in
-    record {
-      no_marker = refl;
-      says = λ w part is. (
-        rows old _ c.self.view_is w part is ∙ pass _ _ _ (ap not (sym c.has_own_move.ensures ∙ c.if-not-has_own_move.false)) ∙ pass _ _ _ fits,
-        refl,
-      );
-      finds = λ w part is. refl;
-      after = ap (λ (r : GameState). record r { text = c.open.new.self }) c.self.view_is ∙ none_tried old c.open.new.self;
-      text = subst (λ (t : Movetext). Annotates Open t c.open.new.self) (ap (λ (r : GameState). r.text) c.self.view_is) c.open.ensures;
-      fits = tt;
-    }
+returns g c = search (rules, lt-leb, rows, pass, none_tried)
 
 pub has_own_move-requires : goal.has_own_move-requires
 has_own_move-requires g c = search text_fits

@@ -1,12 +1,10 @@
-use Rattle.pgn_game.proofs.Words.{[], ap, codes, ◌∙◌, List, Pair, has_pair, arith, rules, ◌≡◌, subst, length, InOrder}
+use Rattle.pgn_game.proofs.Words.{[], codes, has_pair, arith, rules, ◌≡◌, subst, length, InOrder}
 use Rattle.pgn_game.proofs.pairs.StoredPlaces.{stored-held, held-count, HasPlace, place-of-new, place-of-old, begun-seen, begun-stored}
 use Rattle.pgn_game.proofs.tags.TagPairs.begin.Goals as goal
 use Rattle.pgn_game.proofs.tags.TagPairs.begin.Goals.{then-count-len, else-count-len}
 
 pub push-requires : goal.push-requires
-push-requires g c =
-    let count = held-count c.self.inside.stored.items c.self.inside.order.items _ c.self.view_is c.requires.whole in
-    (search rules, omega (arith, c.requires.room, count, c.len-count.ensures.value, c.len.ensures.value))
+push-requires g c = search (rules, held-count)
 
 pub returns : goal.returns
 returns g c =
@@ -20,11 +18,7 @@ returns g c =
       | else-count-len w ↦
           rw w.self-inside-is (place-of-old same c.self.invariant.first (omega (arith, c.self.invariant.within)) c.self.invariant.room)
     ] in
-    let at : c.len-count.result ≡ length c.if-count-len.self-inside.order.items =
-    elim c.if-count-len.branch [
-      | then-count-len w ↦ rw w.self-inside-is c.len-count.ensures.value
-      | else-count-len w ↦ rw w.self-inside-is c.len-count.ensures.value
-    ] in
+    let at : c.len-count.result ≡ length c.if-count-len.self-inside.order.items = search (rules, then-count-len, else-count-len) in
     rw (c.as_mut_slice-stored.ensures.value, c.set_name.ensures) (begun-seen (record { name = c.args.name.now; value = [] }) has at)
 
 pub invariant_of-self : goal.invariant_of-self
@@ -44,11 +38,7 @@ invariant_of-self g c =
       | then-count-len w ↦ rw w.self-inside-is c.len-count.ensures.value
       | else-count-len w ↦ rw w.self-inside-is c.len-count.ensures.value
     ] in
-    let fen : c.if-count-len.self-inside.has_fen ≡ has_pair c.args.self.now.held (codes "FEN") =
-    elim c.if-count-len.branch [
-      | then-count-len w ↦ rw w.self-inside-is (c.self.invariant.fen ∙ ap (λ (ps : List Pair). has_pair ps (codes "FEN")) same)
-      | else-count-len w ↦ rw w.self-inside-is (c.self.invariant.fen ∙ ap (λ (ps : List Pair). has_pair ps (codes "FEN")) same)
-    ] in
+    let fen : c.if-count-len.self-inside.has_fen ≡ has_pair c.args.self.now.held (codes "FEN") = search (rules, then-count-len, else-count-len) in
     rw (c.as_mut_slice-stored.ensures.value, c.set_name.ensures)
     (begun-stored (record { name = c.args.name.now; value = [] }) c.args.place has at (subst InOrder same c.self.invariant.in_order)
     c.requires.new c.requires.place fen)

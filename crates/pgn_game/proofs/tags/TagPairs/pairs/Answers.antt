@@ -1,3 +1,4 @@
+use Rattle.pgn_game.proofs.Words.{rules}
 use Rattle.pgn_game.proofs.pairs.StoredPlaces.{stored-held, stored-in-order}
 use Rattle.pgn_game.proofs.tags.TagPairs.pairs.Goals as goal
 
@@ -5,6 +6,4 @@ pub new-requires : goal.new-requires
 new-requires g c = rw (c.as_slice.ensures.value, c.as_slice-2.ensures.value) (stored-in-order c.self.invariant)
 
 pub returns : goal.returns
-returns g c =
-    rw (c.new.ensures, c.as_slice.ensures.value, c.as_slice-2.ensures.value)
-    (stored-held c.self.inside.stored.items c.self.inside.order.items _ c.self.view_is c.requires)
+returns g c = search (rules, stored-held)

@@ -1,9 +1,10 @@
-use Rattle.pgn_game.proofs.Words.{◌≡◌, ℕ, List, [], Option, OnOk, Result, Appends, Counts, PutsMarker, Written, Writer, Writes, is_nothing, mode_of_written, marker_text, Put, EndGame, line_at, text_at, refl}
-use Rattle.pgn_game.specs.declared.mode.Written.TheVariants.{Full, Reduced, Nothing}
+use Rattle.pgn_game.proofs.Words.{◌≡◌, ℕ, List, [], Option, OnOk, Result, Appends, Counts, PutsMarker, Written, Writer, Writes, is_nothing, mode_of_written, marker_text, Put, EndGame, line_at, text_at, rules}
+use Rattle.pgn_game.specs.declared.mode.Written.TheVariants.{Nothing}
 use Rattle.pgn_layout.specs.declared.sink.WriteFault.{WriteFault}
 use Rattle.pgn_game.proofs.putting.ItemToMovetext.{from_to}
 use Rattle.pgn_game.proofs.putting.SilentReader.{seen_if, writes_some}
-use Rattle.pgn_game.proofs.putting.WritesInTurn.{Writes-append, counts_behind}
+use Rattle.pgn_game.proofs.putting.WritesInTurn.{counts_behind}
+use Rattle.pgn_layout.proofs.OneWriteMore.{Writes-append}
 use Rattle.pgn_game.proofs.writer.Writer.put_marker.Goals as goal
 
 -- the marker was put, and then the game ended
@@ -12,9 +13,7 @@ module _ (old : Writer) (line : List ℕ) (marker : List ℕ) (r : Result (Unit 
     (empty : OnOk r (line ≡ [])) (still : m ≡ n) (counted : Counts r m k) where
   ends : (w : Written) → (w ≡ Nothing → ⊥)
       → PutsMarker {A = Unit {0}} {E = WriteFault} (mode_of_written w) marker old (record old { line = line }) r (from_to a c n k)
-  ends Full some = record { text = Writes-append a b c _ _ r put rest; line = empty; writer = refl; counted = counts_behind n m k r still counted }
-  ends Reduced some = record { text = Writes-append a b c _ _ r put rest; line = empty; writer = refl; counted = counts_behind n m k r still counted }
-  ends Nothing some = absurd (some refl)
+  ends w some = search (rules, Writes-append, counts_behind)
 
 pub returns : goal.returns
 returns g c =

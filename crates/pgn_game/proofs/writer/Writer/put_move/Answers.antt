@@ -1,4 +1,4 @@
-use Rattle.pgn_game.proofs.Words.{arith, refl, ◌≡◌, ◌<◌, ◌≤◌, length, ◌∷◌, [], List, ℕ, subst, ◌∙◌, device, is_black_to_move, number_before, IsToken, text_of_move, PutsTokens}
+use Rattle.pgn_game.proofs.Words.{arith, refl, ◌≡◌, ◌<◌, ◌≤◌, length, ◌∷◌, [], List, ℕ, subst, ◌∙◌, device, is_black_to_move, number_before, IsToken, text_of_move, PutsTokens, rules}
 use Rattle.pgn_game.proofs.putting.ItemToMovetext.{puts_after, puts_fail, is_text, is_token, writes_move}
 use Rattle.pgn_game.proofs.putting.NumberToTokens.{puts_token}
 use Rattle.pgn_game.proofs.writer.Writer.put_move.Goals as goal
@@ -26,9 +26,7 @@ returns-clause-puts g c =
     let number = c.in_ok-put_number.ensures.puts in
     let text = is_text p p m c.write_san_of-san.result.items c.write_san_of-san.ensures.text refl in
     let put : PutsTokens (c.as_slice.result.now ∷ []) c.put_number.new.self.line c.put.new.self c.put.result
-    (device g.W.Sink.taken g.W.Sink.failures c.put_number.new.out c.put.new.out) =
-    puts_token c.as_slice.result.now _ _ _ _ (of_san c.as_slice.result.now _ c.as_slice.ensures.value
-    c.write_san_of-san.ensures.some c.write_san_of-san.ensures.short) c.put.ensures.text c.put.ensures.line c.put.ensures.counted in
+    (device g.W.Sink.taken g.W.Sink.failures c.put_number.new.out c.put.new.out) = search (rules, puts_token, of_san) in
     puts_after (number_before c.args.self.now.is_after_move (is_black_to_move p) p.full)
     (text_of_move p m ∷ []) c.args.self.now.line c.put_number.new.self.line c.put.new.self _ c.put.result _ _ _ _ _ _ number
     (subst (λ (t : List ℕ). PutsTokens (t ∷ []) c.put_number.new.self.line c.put.new.self c.put.result

@@ -1,15 +1,10 @@
-use Rattle.pgn_lexer.proofs.Words.{sym, ap, ◌∙◌, arith, PartialToken, take_rest}
+use Rattle.pgn_lexer.proofs.Words.{sym, ◌∙◌, arith, take_rest, rules}
 use Rattle.pgn_lexer.proofs.stepping.PieceByByte.{close_begun}
 use Rattle.pgn_lexer.proofs.stepping.WholeRuns.{passes_none, passes_gap, reads_word, reads_close, sound_between}
 use Rattle.pgn_lexer.proofs.partial_token.PartialToken.whole_in_comment.Goals as goal
 
 pub loop-used-init : goal.loop-used-init
-loop-used-init c = record {
-  within = omega arith;
-  room = c.self.invariant.0;
-  comment = ap (λ (h : PartialToken). h.mode) c.self.view_is ∙ c.requires.comment;
-  passes = λ skips. passes_none skips _ _ _ _ c.self.view_is;
-}
+loop-used-init c = search (rules, passes_none)
 
 pub loop-used-preserved : goal.loop-used-preserved
 loop-used-preserved c =

@@ -1,10 +1,9 @@
-use Rattle.pgn_lexer.proofs.Words.{◌≡◌, ◌<◌, ◌==◌, ℕ, List, [], ◌∷◌, false, false≢true, arith, length, refl, sym, ap, ◌∙◌, Begins}
+use Rattle.pgn_lexer.proofs.Words.{◌≡◌, ◌<◌, ◌==◌, ℕ, List, false, false≢true, length, refl, sym, ap, ◌∙◌, Begins, rules}
 use Rattle.pgn_lexer.proofs.stepping.WholeRuns.{where_some, whole_begun, whole_string, whole_alone, text_unpassed, alone_unpassed, string_begun}
 use Rattle.pgn_lexer.proofs.partial_token.whole.whole_at.Goals as goal
 
 some : (xs : List ℕ) → false ≡ (length xs == 0) → 0 < length xs
-some [] e = absurd (false≢true e)
-some (x ∷ xs) e = omega arith
+some xs e = search (rules, false≢true)
 
 pub returns-in-Text-Symbol : goal.returns-in-Text-Symbol
 returns-in-Text-Symbol c = record {
@@ -19,10 +18,7 @@ returns-in-Text c = record {
 }
 
 pub returns-else-piece-end-ne34 : goal.returns-else-piece-end-ne34
-returns-else-piece-end-ne34 c = record {
-  whole = whole_string _ _ c.in_ok-end-in-Str.ensures c.if-piece-end-ne34.false (string_begun _ (sym c.begins_outside.ensures ∙ c.in-Str.is));
-  not_passed = λ unpassed. refl;
-}
+returns-else-piece-end-ne34 c = search (rules, whole_string, string_begun)
 
 pub returns-in-Alone : goal.returns-in-Alone
 returns-in-Alone c =
