@@ -262,10 +262,9 @@ class Warnings(Lint):
 
     def warned(self, text, *lines):
         """A text has these warnings, and no fault."""
-        status, out, told = self.lint("a.pgn", of=text)
-        wanted = ["a.pgn:" + it for it in lines]
-        self.assertEqual((status, out.splitlines()[:-1], told), (0, wanted, ""))
-        self.assertEqual(out.endswith("%d warning%s\n" % (len(lines), "s"[len(lines) == 1:])),
+        *found, last = self.written("a.pgn", 0, of=text)
+        self.assertEqual(found, ["a.pgn:" + it for it in lines])
+        self.assertEqual(last.endswith("%d warning%s" % (len(lines), "s"[len(lines) == 1:])),
                          bool(lines))
 
     def warned_of_game(self, text, place, reason):
@@ -424,8 +423,8 @@ class Warnings(Lint):
         self.assertEqual([it["level"] for it in log["runs"][0]["results"]], ["warning"])
 
 
-class CountedWarnings(Lint):
-    """With --fix and --diff the warnings that are left are counted."""
+class Counted(Lint):
+    """With --fix and --diff the warnings that are left are counted, with --statistics all."""
 
     def count(self, text, line=""):
         """How many warnings the summary has, in words and in its record, and the lines before."""
@@ -459,11 +458,8 @@ class CountedWarnings(Lint):
             self.assertEqual(self.lint("--diff all " + line)[2].splitlines()[-1],
                              "3 files, 6 games, 0 faults, 6 warnings, 3 edits")
 
-
-class Statistics(Lint):
-    """gillspoon lint --statistics: how many faults each reason has, and edits each fix."""
-
-    def test_counts(self):
+    def test_statistics(self):
+        """--statistics says how many faults each reason has, and edits each fix."""
         self.put_all({"all/a.pgn": b"1. e2-e4 e7-e5 2. Ke3 *\n",
                       "all/b.pgn": b"1. e2-e4 e5 *\n[White \"a\"]\n\n1. e2-e4, -- *\n"})
         for line in ("", "-j 2", "--max 1"):
@@ -610,10 +606,9 @@ class Command(Lint):
         text = BAD + MENDED * 4000
         self.put("a.pgn", text)
         for line in ("", "--verbose", "--json"):
-            status, out, told = self.lint("--fix a.pgn " + line, preexec_fn=files_up_to(1 << 16))
-            self.assertEqual((status, told), (
-                3, "gillspoon: a.pgn: File too large; it is left as it is\n"))
-            self.assertNotIn("fix", out.replace("fixed\": 0", ""))
+            lines = self.written("--fix a.pgn " + line, 3, preexec_fn=files_up_to(1 << 16),
+                                 told="gillspoon: a.pgn: File too large; it is left as it is\n")
+            self.assertNotIn("fix", "".join(lines).replace("fixed\": 0", ""))
             self.assertEqual((self.get("a.pgn"), os.listdir(self.folder)), (text, ["a.pgn"]))
 
     def test_a_full_file_system(self):

@@ -15,8 +15,8 @@ import unittest
 import programs
 from documents import blocks_of, lines_of
 from programs import (NO_TEXT, OTHER_KINDS, PACKAGE, PACKERS, ROOT, Gillspoon, bytes_of, need,
-                      need_module, need_package, not_tried, run, text_of, vectors, without_rights,
-                      zip_of)
+                      need_module, need_package, not_tried, output_of, run, text_of, vectors,
+                      without_rights, zip_of)
 from test_python import REAL
 
 setUpModule = need_package
@@ -159,9 +159,9 @@ FIELDS = ["kind", "file", "line", "column", "offset", "number", "reason", "note"
 TEXT = {"type": "object", "required": ["text"], "properties": {"text": {"type": "string"}}}
 
 
-def record(required, **properties):
-    """A schema of an object that has no other property."""
-    return {"type": "object", "required": required, "properties": properties,
+def record(required, **others):
+    """A schema of an object that has these properties, perhaps some of the others, and no more."""
+    return {"type": "object", "required": [*required], "properties": {**required, **others},
             "additionalProperties": False}
 
 
@@ -174,26 +174,23 @@ URI = {"type": "string", "pattern": r"^(?:[\w.~:/?#@!$&'()*+,;=-]|%[0-9A-F]{2})+
 RULE = {"type": "string", "pattern": r"^PGN\d\d$"}
 LEVEL = {"enum": ["none", "note", "warning", "error"]}
 FROM_0, FROM_1 = ({"type": "integer", "minimum": it} for it in (0, 1))
-FILE = record(["uri"], uri=URI)
+FILE = record({"uri": URI})
 # What SARIF 2.1.0 requires of a log, of those properties that are used here.
-DELETED = record(["byteOffset", "byteLength"], byteOffset=FROM_0, byteLength=FROM_0)
-REPLACEMENT = record(["deletedRegion"], insertedContent=TEXT, deletedRegion=DELETED)
-CHANGE = record(["artifactLocation", "replacements"], artifactLocation=FILE,
-                replacements=array(REPLACEMENT, minItems=1))
-FIX = record(["artifactChanges"], description=TEXT, artifactChanges=array(CHANGE, minItems=1))
-REGION = record(["startLine"], startLine=FROM_1, startColumn=FROM_1, byteOffset=FROM_0)
-PLACE = record(["artifactLocation"], artifactLocation=FILE, region=REGION)
-RESULT = record(["message"], ruleId=RULE, message=TEXT, level=LEVEL, fixes=array(FIX, minItems=1),
-                locations=array(record([], physicalLocation=PLACE)))
-DRIVER = record(["name"], name={"type": "string"}, rules=array(
-    record(["id"], id=RULE, shortDescription=TEXT), uniqueItems=True))
-INVOCATION = record(
-    ["executionSuccessful"], executionSuccessful={"type": "boolean"},
-    toolExecutionNotifications=array(record(["message"], message=TEXT, level=LEVEL)))
-RUN = record(["tool"], tool=record(["driver"], driver=DRIVER), invocations=array(INVOCATION),
+DELETED = record({"byteOffset": FROM_0, "byteLength": FROM_0})
+REPLACEMENT = record({"deletedRegion": DELETED}, insertedContent=TEXT)
+CHANGE = record({"artifactLocation": FILE, "replacements": array(REPLACEMENT, minItems=1)})
+FIX = record({"artifactChanges": array(CHANGE, minItems=1)}, description=TEXT)
+REGION = record({"startLine": FROM_1}, startColumn=FROM_1, byteOffset=FROM_0)
+PLACE = record({"artifactLocation": FILE}, region=REGION)
+RESULT = record({"message": TEXT}, ruleId=RULE, level=LEVEL, fixes=array(FIX, minItems=1),
+                locations=array(record({}, physicalLocation=PLACE)))
+RULES = array(record({"id": RULE}, shortDescription=TEXT), uniqueItems=True)
+DRIVER = record({"name": {"type": "string"}}, rules=RULES)
+TOLD = array(record({"message": TEXT}, level=LEVEL))
+INVOCATION = record({"executionSuccessful": {"type": "boolean"}}, toolExecutionNotifications=TOLD)
+RUN = record({"tool": record({"driver": DRIVER})}, invocations=array(INVOCATION),
              columnKind={"enum": ["utf16CodeUnits", "unicodeCodePoints"]}, results=array(RESULT))
-SARIF = record(["version", "runs"], **{"$schema": URI}, version={"enum": ["2.1.0"]},
-               runs=array(RUN, minItems=1))
+SARIF = record({"version": {"enum": ["2.1.0"]}, "runs": array(RUN, minItems=1)}, **{"$schema": URI})
 
 
 class Lint(Gillspoon, unittest.TestCase):
@@ -206,6 +203,12 @@ class Lint(Gillspoon, unittest.TestCase):
         """As `Gillspoon.says` has it. The output is given as a text, or as its lines."""
         out = out if isinstance(out, str) else "".join("%s\n" % it for it in out)
         super().says("lint " + line, status, out.encode(), told.encode(), **more)
+
+    def written(self, line, status, told="", **more):
+        """The lines of the output of a call that ends so, and says this on standard error."""
+        ended, out, said = self.lint(line, **more)
+        self.assertEqual((ended, said), (status, told), (line, out))
+        return out.splitlines()
 
     def records(self, line, *names, **more):
         return list(map(json.loads, self.lint("--json " + line, *names, **more)[1].splitlines()))
@@ -268,12 +271,11 @@ class Faults(Lint):
         promotes = b'[FEN "8/P6k/8/8/8/8/8/K7 w - - 0 1"]\n[SetUp "1"]\n\n1. a8+ *\n'
         for text, said in ((promotes, "A white pawn is promoted on a8: write a8=Q."),
                            (b"1. e4 e5 2. Ke2 e4xh1+ *\n", "No black pawn can go to h1.")):
-            status, out, err = self.lint("--board --quiet a.pgn", of=text)
-            self.assertEqual((status, err), (1, ""), out)
-            self.assertEqual(out.rstrip().splitlines()[-1].strip(), said)
+            last = self.written("--board --quiet a.pgn", 1, of=text)[-2:]
+            self.assertEqual(last, ["  " + said, ""])
         # a long line is cut around the caret
         text = b"1. e4 {" + b"w " * 200 + b"} Ke3 {" + b"w " * 200 + b"} *\n"
-        lines = self.lint("--board a.pgn", of=text)[1].splitlines()
+        lines = self.written("--board a.pgn", 1, of=text)
         self.assertEqual(lines[1][2:], "..." + "w " * 29 + "} " + "Ke3 {" + "w " * 27 + "w...")
         self.assertEqual(lines[2][2:], " " * 63 + "^")
 
@@ -305,6 +307,7 @@ JUNK = """e4Q e5N exd5N a8N a8Q+ axb8R h1=N Pe4=B K=Q Kxe9 N Nf N3 Nf3N Nf3=Q+ Q
 (( )) [ ] [White "x"] [x] " "x { } ; % < > -- Z0 null 1/2 1:0 0-0-0-0
 \ufeff \u200b \xa0 \u2655h5 \u265f \xbd
 \x00 \x1a \xff a8=\u2655 N\u200bf3 D RR1d1 e8= exd6e.p. Ng1f3g5 aaa8Q K@e4 * 1-0""".split()
+LETTERS = "KQRBNPabcdefgh12345678xO0-=+#!?.NQRB"
 MODES = ("", "--board", "--json", "--sarif", "--json --unsafe-fixes", "--diff",
          "--diff --unsafe-fixes", "--fix")
 # Plants an error in a function of the package.
@@ -314,40 +317,32 @@ def failing(*words): raise KeyError('planted')
 
 
 class NoTraceback(Lint):
-    def junk(self, rng):
-        alphabet = "KQRBNPabcdefgh12345678xO0-=+#!?.NQRB"
-        return rng.choice(JUNK) if rng.random() < 0.5 else "".join(
-            rng.choice(alphabet) for _ in range(rng.randint(1, 7)))
-
-    def games(self, count, seed):
-        """Games of bench/games.txt, of which each has one token that is junk."""
+    def games(self, seed):
+        """1,200 games of bench/games.txt, of which each has one token that is junk."""
         rng, games = random.Random(seed), []
         lines = text_of("bench/games.txt").splitlines()
-        for number in range(count):
+        for number in range(1200):
             words = rng.choice(lines).split()[:rng.randint(2, 60)]
-            words[rng.randrange(1, len(words))] = self.junk(rng)
+            junk = rng.choice(JUNK) if rng.random() < 0.5 else "".join(
+                rng.choice(LETTERS) for _ in range(rng.randint(1, 7)))
+            words[rng.randrange(1, len(words))] = junk
             games.append('[White "%d"]\n[Result "%s"]\n\n%s %s\n' % (
                 number, words[0], " ".join(words[1:]), words[0]))
         return "\n".join(games)
-
-    def try_modes(self, paths):
-        counts = []
-        for line in MODES:
-            status, out, told = self.lint("-j 2 %s %s" % (line, paths))
-            self.assertEqual(status, 1, line)
-            for said in ("Traceback", "an error of gillspoon"):
-                self.assertNotIn(said, told)
-            if "--diff" not in line:
-                self.assertEqual(told, "", line)
-            counts.append(len(out))
-        self.assertGreater(min(counts), 100)
 
     def test_worked_inputs_and_junk_in_the_place_of_a_token(self):
         inputs = vectors()
         self.put_all({"all/%s.pgn" % it["file"]: it["input"] for it in inputs})
         self.assertGreater(len(inputs), 250)
-        self.put_all({"all/%s.pgn" % it: self.games(1200, it) for it in range(2)})
-        self.try_modes("all")
+        self.put_all({"all/%s.pgn" % it: self.games(it) for it in range(2)})
+        for line in MODES:
+            status, out, told = self.lint("-j 2 %s all" % line)
+            self.assertEqual(status, 1, line)
+            for said in ("Traceback", "an error of gillspoon"):
+                self.assertNotIn(said, told)
+            if "--diff" not in line:
+                self.assertEqual(told, "", line)
+            self.assertGreater(len(out), 100, line)
 
     def test_an_error_of_its_own(self):
         """An error that is planted gives the faults without what failed, and status 3."""
@@ -440,8 +435,7 @@ class Files(Lint):
             self.put(name, BAD)
             self.says("--quiet", 1, "names/%s:%s\n" % (wanted, BAD_LINE), names=[name])
             self.assertEqual(self.records("", name)[0]["file"], name)
-        status, out, _ = self.lint("names")
-        self.assertEqual((status, out.count("\n")), (1, len(shown) + 1))
+        self.assertEqual(len(self.written("names", 1)), len(shown) + 1)
         # a leading dash
         self.put("-c.pgn", BAD)
         self.says("d.pgn --quiet -- -c.pgn d.pgn", 1, of=BAD, out=[
@@ -470,10 +464,9 @@ class Files(Lint):
                  "Compressed file ended before the end-of-stream marker was reached")):
             for line in ("", "-j 2"):
                 with self.subTest(name):
-                    status, out, told = self.lint("%s good.pgn %s bad.pgn" % (line, name))
-                    self.assertEqual((status, told), (3, "gillspoon: %s: %s\n" % (name, reason)))
-                    self.assertEqual(out.splitlines()[0], "bad.pgn:" + BAD_LINE)
-                    self.assertIn("2 files, ", out)
+                    bad, *_, last = self.written("%s good.pgn %s bad.pgn" % (line, name), 3,
+                                                 "gillspoon: %s: %s\n" % (name, reason))
+                    self.assertEqual((bad, last[:9]), ("bad.pgn:" + BAD_LINE, "2 files, "))
 
     def test_a_file_without_permission(self):
         self.put("a.pgn", GOOD)
@@ -487,15 +480,13 @@ class Files(Lint):
                          (3, b"gillspoon: a.pgn: Permission denied\n"))
 
 
-OTHERS_IN_A_FOLDER = {"all/" + name: text for name, (text, _) in OTHER_KINDS.items()}
-
-
 class OtherKinds(Lint):
     """Files that are no text of games are refused, and stay as they are."""
 
     def setUp(self):
         super().setUp()
-        self.put_all(OTHERS_IN_A_FOLDER)
+        self.texts = {name: text for name, (text, _) in OTHER_KINDS.items()}
+        self.put_all({"all/" + name: text for name, text in self.texts.items()})
 
     def test_each_kind(self):
         for line in ("", "--board", "--json", "--sarif", "--quiet", "--checked", "--fix",
@@ -509,8 +500,7 @@ class OtherKinds(Lint):
                 self.assertEqual((status, lines), (
                     3, ["gillspoon: all/%s: %s" % it for it in sorted(reasons.items())]))
                 self.assertNotIn("move", out)
-                self.assertEqual({"all/" + it: self.get("all/" + it)
-                                  for it in os.listdir(self.folder + "/all")}, OTHERS_IN_A_FOLDER)
+                self.assertEqual(self.files("all"), self.texts)
 
     def test_standard_input(self):
         for name in ("mark.pgn", "tape.pgn", "tape.pgn.gz", "page.pgn", "guide.pgn"):
@@ -533,8 +523,7 @@ class OtherKinds(Lint):
                 (b'\xef\xbb\xbf\n[ White "A"]\n\n1. e4 \0\0 *\n', "4:7: control byte"),
                 (b"<1> *\n", "1:1: reserved character"), (b"<", "1:1: reserved character"),
                 (b"%PDF is an escape line\n1. e9 *\n", "2:4: not a move")):
-            status, out, told = self.lint("--quiet a.pgn", of=text)
-            self.assertEqual((status, told), (1, ""))
+            out, = self.written("--quiet a.pgn", 1, of=text)
             self.assertTrue(out.startswith("a.pgn:%s" % reason), out)
 
     def test_what_comes_in_pieces(self):
@@ -543,11 +532,9 @@ class OtherKinds(Lint):
                              (b" " * 400 + OTHER_KINDS["tag.pgn"][0], 3)):
             with subprocess.Popen([*LINT, "-"], env=self.env, stdin=subprocess.PIPE, bufsize=0,
                                   stdout=subprocess.DEVNULL, stderr=subprocess.DEVNULL) as child:
-                for at in range(len(text)):
-                    try:
+                with contextlib.suppress(BrokenPipeError):
+                    for at in range(len(text)):
                         child.stdin.write(text[at:at + 1])
-                    except BrokenPipeError:
-                        break
                 child.stdin.close()
                 self.assertEqual(child.wait(timeout=20), status)
 
@@ -566,11 +553,9 @@ class Zips(Lint):
         wanted = ["a.zip" + it for it in self.lines]
         self.says("--quiet a.zip", 1, wanted)
         self.says("--quiet a.zip -j 2 a.zip", 1, wanted * 2)
-        self.assertEqual(self.lint("a.zip")[1].splitlines()[-1],
-                         "3 files, 4 games, 2 faults in 2 files")
-        first, second, summary = self.records("a.zip")
-        self.assertEqual([(it["file"], it["line"], it["offset"], it["game"])
-                          for it in (first, second)],
+        self.assertEqual(self.written("a.zip", 1)[-1], "3 files, 4 games, 2 faults in 2 files")
+        *found, summary = self.records("a.zip")
+        self.assertEqual([(it["file"], it["line"], it["offset"], it["game"]) for it in found],
                          [("a.zip:y.PGN", 5, 42, 1), ("a.zip:b\n: 1:2.pgn", 8, 81, 2)])
         self.assertEqual((summary["files"], summary["bad_files"]), (3, 2))
         self.assertIn('"a.zip%3Ay.PGN"', self.lint("--sarif a.zip")[1])
@@ -635,14 +620,10 @@ class Zips(Lint):
         self.says("--quiet all/photos.zip", 3,
                   told="gillspoon: all/photos.zip: has no file *.pgn inside\n")
         self.put_all({"all/b.pgn.zip": none, "all/c.zip": b"none", "none/photos.zip": none})
-        status, _, told = self.lint("all")
-        self.assertEqual((status, told), (
-            3, "gillspoon: all/b.pgn.zip: has no file *.pgn inside\n"
-            "gillspoon: all/c.zip: File is not a zip file\n" + passed))
+        self.written("all", 3, "gillspoon: all/b.pgn.zip: has no file *.pgn inside\n"
+                     "gillspoon: all/c.zip: File is not a zip file\n" + passed)
         # a folder of such a zip alone
-        status, _, told = self.lint("none")
-        self.assertEqual((status, told), (3, passed.replace("all", "none")
-                                          + "gillspoon: none: %s\n" % NO_FILE))
+        self.written("none", 3, passed.replace("all", "none") + "gillspoon: none: %s\n" % NO_FILE)
 
 
 class Options(Lint):
@@ -664,9 +645,7 @@ class Options(Lint):
         lines = ["./%s.pgn:%d:13: move is not legal (game %d, Ada \u2013 Bob)" % it for it in (
             ("a", 4, 1), ("a", 9, 2), ("a", 14, 3), ("b", 4, 1))]
         for jobs in "12":
-            status, out, _ = self.lint("--max 4 . -j " + jobs)
-            self.assertEqual((status, out.splitlines()),
-                             (1, lines + ["3 files, 9 games, 9 faults in 3 files"]))
+            self.says("--max 4 . -j " + jobs, 1, [*lines, "3 files, 9 games, 9 faults in 3 files"])
 
     def test_json(self):
         fault, summary = self.records("a.pgn", of=WAYS["an exposed king"][0])
@@ -683,8 +662,8 @@ class Options(Lint):
 
     def test_tags_alone(self):
         """A line has the note in place of a reason that would mislead; a record has both."""
-        note, reason = "the game before may have tags alone, without moves and a result", \
-            "tag is given twice"
+        note = "the game before may have tags alone, without moves and a result"
+        reason = "tag is given twice"
         fault = self.records("a.pgn", of=WAYS["tags alone"][0])[0]
         self.assertEqual((fault["number"], fault["reason"], fault["note"]), (22, reason, note))
         ran, = json.loads(self.lint("--sarif a.pgn")[1])["runs"]
@@ -706,12 +685,10 @@ class Options(Lint):
         self.assertEqual(ran["tool"]["driver"]["rules"], [
             {"id": "PGN01", "shortDescription": {"text": "stray byte"}},
             {"id": "PGN34", "shortDescription": {"text": "move is not legal"}}])
-        places = [it["locations"][0]["physicalLocation"] for it in ran["results"]]
-        self.assertEqual([it["region"] for it in places], [
-            {"startLine": 4, "startColumn": 13, "byteOffset": 41},
-            {"startLine": 10, "startColumn": 1, "byteOffset": 118},
-            {"startLine": 14, "startColumn": 7, "byteOffset": 145}])
-        self.assertEqual({it["artifactLocation"]["uri"] for it in places}, {"my%20games/a%3Ab.pgn"})
+        self.assertEqual([it["locations"][0]["physicalLocation"] for it in ran["results"]], [
+            {"artifactLocation": {"uri": "my%20games/a%3Ab.pgn"},
+             "region": {"startLine": line, "startColumn": column, "byteOffset": offset}}
+            for line, column, offset in ((4, 13, 41), (10, 1, 118), (14, 7, 145))])
         self.assertEqual(ran["results"][0]["message"]["text"],
                          BAD_LINE[6:] + ". The white king cannot go to e3.")
         self.check_that_the_schema_refuses(log, jsonschema)
@@ -807,14 +784,10 @@ class Streams(Lint):
                 time.sleep(0.2)
                 child.send_signal(signal.SIGINT)
                 _, told = child.communicate(timeout=20)
-                for _ in range(100):
-                    try:
+                with self.assertRaises(BrokenPipeError, msg="a process still reads"):
+                    for _ in range(100):
                         pipe.write(b" ")
-                    except BrokenPipeError:
-                        break
-                    time.sleep(0.05)
-                else:
-                    self.fail("a process still reads")
+                        time.sleep(0.05)
             self.assertEqual((child.returncode, told), (-signal.SIGINT, b""))
 
     def test_lost_processes(self):
@@ -907,23 +880,18 @@ class Others(Lint):
         env = dict(self.env, PRE_COMMIT_HOME=self.folder + "/.home", HOME=self.folder,
                    GIT_CONFIG_COUNT="1", GIT_CONFIG_KEY_0="safe.directory", GIT_CONFIG_VALUE_0="*")
 
-        def git(*words):
-            return run(["git", *words], cwd=self.folder, env=env)
+        def said(status, *words):
+            return output_of(run(words, cwd=self.folder, env=env), status, err=None).decode()
 
-        def hook(name, status):
-            ran = run(["pre-commit", "try-repo", ROOT, name, "--all-files", "--color", "never"],
-                      cwd=self.folder, env=env)
-            self.assertEqual(ran.returncode, status, ran.stdout + ran.stderr)
-            return ran.stdout.decode()
-
-        for words in (["init", "-q"], ["add", "--", "good games.pgn", "-c.pgn", "bad.txt"]):
-            self.assertEqual(git(*words).returncode, 0)
-        found = [it for it in hook("gillspoon-lint", 1).splitlines()
-                 if ".pgn" in it or ".txt" in it]
-        self.assertEqual(found, ["-c.pgn:" + BAD_LINE])
-        git("rm", "-qf", "--", "-c.pgn")
-        hook("gillspoon-lint", 0)
-        self.assertIn("\ngood games.pgn\n", hook("gillspoon-fmt", 1))
+        hook = "pre-commit", "try-repo", "--all-files", "--color", "never", ROOT
+        said(0, "git", "init", "-q")
+        said(0, "git", "add", "--", "good games.pgn", "-c.pgn", "bad.txt")
+        lines = said(1, *hook, "gillspoon-lint").splitlines()
+        self.assertEqual([it for it in lines if ".pgn" in it or ".txt" in it],
+                         ["-c.pgn:" + BAD_LINE])
+        said(0, "git", "rm", "-qf", "--", "-c.pgn")
+        said(0, *hook, "gillspoon-lint")
+        self.assertIn("\ngood games.pgn\n", said(1, *hook, "gillspoon-fmt"))
 
     def test_the_configuration_of_the_hook(self):
         """What the recipe says of pre-commit names the hooks of this repository."""
@@ -944,8 +912,7 @@ class Others(Lint):
         commands = re.findall(r"(?m)^ +- run: (.*)$", text)
         lint, = [it for it in commands if "gillspoon lint" in it]
         self.put("games/a.pgn", BAD)
-        ran = run(["sh", "-ec", lint], cwd=self.folder, env=self.env)
-        self.assertEqual(ran.returncode, 1, ran.stderr)
+        output_of(run(["sh", "-ec", lint], cwd=self.folder, env=self.env), 1, err=None)
         name = re.search(r"sarif_file: ([\w.]+)", text)[1]
         result, = json.loads(self.get(name))["runs"][0]["results"]
         place = result["locations"][0]["physicalLocation"]
