@@ -35,6 +35,7 @@ MOVE = re.compile(rb"(?<![\w+#=:/\[\"-])(?:[KQRBN]?[a-h]?[1-8]?x?[a-h][1-8](?:=[
                   rb"[+#]*|(?<!\S)(?:1-0|0-1|1/2-1/2)")
 # The name of a tag pair, its quotes, and its bracket.
 PAIR_LINE = re.compile(rb"(?m)^\[(\w+) (\")[^\"\n]*(\")(\])[ \t]*\n")
+READING_PAIR = re.compile(PAIR_LINE.pattern.replace(rb"\w+", b"Result|FEN|SetUp"))
 # Two moves behind a number with one period; a capture of a pawn; a comment in braces.
 PAIR_OF_MOVES = re.compile(rb"(?<![\w.])[0-9]+\.[ \n]?(?:%(move)s)([ \n])(?=%(move)s)" % {
     b"move": MOVE.pattern})
@@ -89,16 +90,12 @@ def is_sound(text):
 
 
 def content(text):
-    """For each game of a sound text its tags, its moves with their variations, and its result."""
+    """For each game of a sound text its tags, its result, and its moves and parentheses."""
     import gillspoon
-    return [(dict(game.tags), game.result, moves_of(game.text.partition(b"\n\n")[2]))
+    unplayed = re.compile(rb"\{[^}]*\}|\$[0-9]+|[0-9]+\.+")  # comments, glyphs, numbers
+    return [(dict(game.tags), game.result,
+             re.findall(rb"[()]|[^()\s]+", unplayed.sub(b"", game.text.partition(b"\n\n")[2])))
             for game in gillspoon.games(text)]
-
-
-def moves_of(movetext):
-    """The moves and parentheses of an export text, without comments, glyphs and numbers."""
-    plain = re.sub(rb"\{[^}]*\}|\$[0-9]+|[0-9]+\.+", b"", movetext)
-    return plain.replace(b"(", b" ( ").replace(b")", b" ) ").split()
 
 
 # ---- damages: each gives the edits of a text, (start, stop, new), or none
@@ -137,50 +134,29 @@ def replaced(pattern, *texts, place=movetext_or_all):
     return at_one(pattern, lambda rng, found: [(*found.span(), rng.choice(texts))], place)
 
 
-def zero_width(rng, text):
-    if rng.random() < 0.5:
-        move = one_of(rng, MOVE.finditer(text))
-        at = rng.randint(*move.span()) if move else 0
-    else:
-        at = rng.randrange(len(text))
-    return put_in(at, rng.choice(ZERO_WIDTH))
-
-
 def confused(*letters):
     """A damage by which one of some letters is read as another."""
     return at_one(b"[%s]" % b"".join(letters), lambda rng, found: [
         (*found.span(), rng.choice([it for it in letters if it != found[0]]))], movetext_or_all)
 
 
-def byte_of_a_move(rng, text):
-    """The place of a byte: in nine cases of ten in a move or a marker."""
-    move = one_of(rng, MOVE.finditer(text)) if rng.random() < 0.9 else None
-    return rng.randrange(*move.span()) if move else rng.randrange(len(text))
+def at_a_byte(share, edit_of, behind=0):
+    """A damage at a byte: in such a share of cases in a move or a marker, or so far behind it."""
+    def damage(rng, text):
+        move = one_of(rng, MOVE.finditer(text)) if rng.random() < share else None
+        begin, end = (move.start(), move.end() + behind) if move else (0, len(text))
+        return [edit_of(rng, rng.randrange(begin, end), text)]
+
+    return damage
 
 
-def byte_dropped(rng, text):
-    at = byte_of_a_move(rng, text)
-    return [(at, at + 1, b"")]
+def dropped(share, pattern, other):
+    """A damage that drops a match of the first pattern in such a share of cases."""
+    def damage(rng, text):
+        found = one_of(rng, (pattern if rng.random() < share else other).finditer(text))
+        return [(*found.span(), b"")] if found else []
 
-
-def byte_doubled(rng, text):
-    at = byte_of_a_move(rng, text)
-    return put_in(at, text[at:at + 1])
-
-
-def line_dropped(rng, text):
-    """In three cases of four it has movetext: most tags are missed by nobody."""
-    pattern = MOVE_LINE if rng.random() < 0.75 else LINE
-    line = one_of(rng, pattern.finditer(text))
-    return [(*line.span(), b"")] if line else []
-
-
-def tag_dropped(rng, text):
-    """Nine of ten say how the game is read: the others are missed by nobody."""
-    pairs = list(PAIR_LINE.finditer(text))
-    reading = [it for it in pairs if it[1] in (b"Result", b"FEN", b"SetUp")]
-    pair = one_of(rng, reading if rng.random() < 0.9 else pairs)
-    return [(*pair.span(), b"")] if pair else []
+    return damage
 
 
 def tag_doubled(rng, text):
@@ -266,14 +242,17 @@ KINDS = (
     {"a line wrapped inside a move": at_one(MOVE, lambda rng, move: put_in(
         rng.randrange(move.start() + 1, move.end()), rng.choice((b"\n", b"\n", b"\r\n", b"\r")))),
      "CR for LF": cr_for_lf},
-    {"a no-break space": replaced(rb" ", *NO_BREAK), "a zero-width character": zero_width},
+    {"a no-break space": replaced(rb" ", *NO_BREAK), "a zero-width character": at_a_byte(
+        0.5, lambda rng, at, text: (at, at, rng.choice(ZERO_WIDTH)), behind=1)},
     {"8 and B": confused(b"8", b"B")},
     {"0 and O": confused(b"0", b"O")},
     {"1, l and I": confused(b"1", b"l", b"I")},
-    {"a byte dropped": byte_dropped, "a byte doubled": byte_doubled,
-     "a line dropped": line_dropped,
+    {"a byte dropped": at_a_byte(0.9, lambda rng, at, text: (at, at + 1, b"")),
+     "a byte doubled": at_a_byte(0.9, lambda rng, at, text: (at, at, text[at:at + 1])),
+     # most tags are missed by nobody, but for those that say how the game is read
+     "a line dropped": dropped(0.75, MOVE_LINE, LINE),
      "a line doubled": at_one(LINE, lambda rng, line: put_in(line.end(), line[0])),
-     "a tag dropped": tag_dropped, "a tag doubled": tag_doubled},
+     "a tag dropped": dropped(0.9, READING_PAIR, PAIR_LINE), "a tag doubled": tag_doubled},
     {"files joined without an end": files_joined},
     {"a cut file": file_cut},
     {"curly quotes": other_quotes(QUOTES)},
@@ -312,18 +291,6 @@ def edited(text, edits):
     return out + text[at:]
 
 
-def are_apart(edits, others):
-    """Whether no edit touches one of the others."""
-    return all(stop < start2 or stop2 < start
-               for start, stop, _ in edits for start2, stop2, _ in others)
-
-
-def are_loud_together(sound, silent, loud):
-    """Whether a text has a fault with any of the loud damages beside the silent ones."""
-    some = [it for size in range(1, len(loud) + 1) for it in itertools.combinations(loud, size)]
-    return not any(is_sound(edited(sound, silent + sum(it, []))) for it in some)
-
-
 def damaged_texts(pool, count, seed):
     """Texts of a seed, in turn, each with one to three damages."""
     rng, made = random.Random("damage %d" % seed), 0
@@ -334,15 +301,19 @@ def damaged_texts(pool, count, seed):
             tries += 1
             name, damage = rng.choice(list(rng.choice(KINDS).items()))
             edits = damage(rng, sound)
-            others = [it for _, made_before in damages for it in made_before]
-            if edits and are_apart(edits, others) and edited(sound, edits) != sound:
+            # no edit touches one of those before
+            are_apart = all(stop < start2 or stop2 < start for start, stop, _ in edits
+                            for _, others in damages for start2, stop2, _ in others)
+            if edits and are_apart and edited(sound, edits) != sound:
                 damages.append((name, edits))
         judged = [(name, is_sound(edited(sound, edits)), edits) for name, edits in damages]
         silent = [it for _, is_silent, edits in judged if is_silent for it in edits]
         loud = [edits for _, is_silent, edits in judged if not is_silent]
         reference = edited(sound, silent)
-        if damages and is_sound(sound) and is_sound(reference) \
-                and are_loud_together(sound, silent, loud):
+        # there is a fault with any of the loud damages beside the silent ones
+        some = [it for size in range(1, len(loud) + 1) for it in itertools.combinations(loud, size)]
+        if damages and is_sound(sound) and is_sound(reference) and not any(
+                is_sound(edited(sound, silent + sum(it, []))) for it in some):
             made += 1
             yield Damaged(reference, edited(sound, silent + sum(loud, [])), judged)
 
@@ -350,21 +321,16 @@ def damaged_texts(pool, count, seed):
 # ---- what comes out
 
 
-def mended(text):
-    """A text after its safe edits, and these."""
-    import gillspoon
-    edits = list(gillspoon.fixes(text))
-    return edited(text, [(it.offset, it.offset + len(it.old), it.new) for it in edits]), edits
-
-
-def outcome(it):
+def outcome(damaged):
     """What the safe fixes make of a damaged text, and their edits."""
-    text, edits = mended(it.text)
+    import gillspoon
+    edits = list(gillspoon.fixes(damaged.text))
+    text = edited(damaged.text, [(it.offset, it.offset + len(it.old), it.new) for it in edits])
     if not is_sound(text):
         return UNMENDED, edits
     if not edits:
         return SILENT, edits
-    return RIGHT if content(text) == content(it.reference) else WRONG, edits
+    return RIGHT if content(text) == content(damaged.reference) else WRONG, edits
 
 
 class Counts:
