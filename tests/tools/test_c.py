@@ -40,16 +40,16 @@ STRUCTS = {name: type(name, (ctypes.Structure,), {"_fields_": [*map(field, field
            for name, fields in test_library.c_structs().items()}
 
 
-def in_turn(call):
-    """What a call gives from the place 0 on, and then in turn from the end of each game."""
+def in_turn(call, end="end"):
+    """What a call gives from the place 0 on, and then in turn from the end of each game or tag."""
     at = 0
     while True:
         found = call(at)
         yield found
         if found[0].status != OK:
             return
-        assert found[0].end > at
-        at = found[0].end
+        assert getattr(found[0], end) > at
+        at = getattr(found[0], end)
 
 
 class Library:
@@ -68,14 +68,15 @@ class Library:
                  for it in words]
         return getattr(self.calls, name)(*itertools.chain(*parts))
 
-    def filled(self, data, capacity, call, may_be_used=False):
-        """The result of a call that gets a buffer, and what it wrote there. All behind it stays.
+    def filled(self, name, words, capacity, more=(), may_be_used=False):
+        """The result of a call that gets a buffer behind words, and what it wrote there.
 
-        Without a capacity there is room for all that comes of the data.
+        All behind that stays. Without a capacity there is room for all that comes of the texts.
         """
-        capacity = 64 * len(data) + 65536 if capacity is None else capacity
+        if capacity is None:
+            capacity = 65536 + sum(64 * len(it) for it in words if isinstance(it, bytes))
         buffer = ctypes.create_string_buffer(b"\xAA" * (capacity + 8), capacity + 8)
-        result = call(buffer, capacity)
+        result = self.call(name, *words, buffer, capacity, *more)
         assert result.written <= capacity
         behind = capacity if may_be_used else result.written
         assert buffer.raw[behind:] == b"\xAA" * (capacity + 8 - behind)
@@ -83,13 +84,11 @@ class Library:
 
     def convert(self, data, mode=0, capacity=None):
         """The result for the whole text, and what was written."""
-        return self.filled(data, capacity,
-                           lambda *room: self.call("pgn_convert", data, *room, mode))
+        return self.filled("pgn_convert", [data], capacity, [mode])
 
     def next_game(self, data, at=0, mode=0, missing=0, capacity=None, name="pgn_next_game"):
         """The result for the game behind a place, and what was written."""
-        return self.filled(data, capacity,
-                           lambda *room: self.call(name, data, at, mode, missing, *room))
+        return self.filled(name, [data, at, mode, missing], capacity)
 
     def read_game(self, *words):
         """The same, but the tag section alone was written."""
@@ -97,15 +96,13 @@ class Library:
 
     def line(self, fen, data, line_format=0, capacity=None):
         """The result for a line of play, and the lines that were written."""
-        result, text = self.filled(
-            data, capacity, lambda *room: self.call("pgn_line", fen, data, line_format, *room))
+        result, text = self.filled("pgn_line", [fen, data, line_format], capacity)
         assert text.count(b"\n") == result.plies
         return result, text
 
     def items(self, data, at=0, first=0, fields=ALL_FIELDS, capacity=None):
         """The result for the items of the game behind a place, and the lines that were written."""
-        return self.filled(data, capacity, lambda *room: self.call(
-            "pgn_items", data, at, first, fields, *room), may_be_used=True)
+        return self.filled("pgn_items", [data, at, first, fields], capacity, may_be_used=True)
 
     def fen_by(self, name, fen, capacity=96):
         """The result of a call that writes a form of a FEN, and what it wrote."""
@@ -142,15 +139,10 @@ def chosen(result, *names):
 
 def tag_section(library, text):
     """The tag pairs of an export text, as they are written, and the place behind them."""
-    at, pairs = 0, []
-    while True:
-        tag = library.call("pgn_tag_at", text, at)
-        if tag.status != OK:
-            return pairs, at
-        pairs.append((text[tag.name_at : tag.name_at + tag.name_length],
-                      text[tag.value_at : tag.value_at + tag.value_length]))
-        assert tag.next > at
-        at = tag.next
+    *tags, _ = [it for it, in in_turn(lambda at: [library.call("pgn_tag_at", text, at)], "next")]
+    pairs = [(text[it.name_at : it.name_at + it.name_length],
+              text[it.value_at : it.value_at + it.value_length]) for it in tags]
+    return pairs, tags[-1].next if tags else 0
 
 
 def lines_that_fit(texts, first, capacity):
@@ -158,15 +150,10 @@ def lines_that_fit(texts, first, capacity):
 
     The texts are those of the items in turn. All of it is there if its end is, whole lines or not.
     """
-    written = b"".join(texts[first:])
-    if len(written) <= capacity:
-        return written, len(texts)
-    line, count = b"", 0
-    for number, text in enumerate(texts[first:], 1):
-        line += text
-        if len(line) <= capacity and (not line or line.endswith(b"\n")):
-            written, count = line, number
-    return written[: len(written) if count else 0], first + count
+    fronts = enumerate(itertools.accumulate(texts[first:]), first + 1)
+    fitting = [(front, number) for number, front in fronts if len(front) <= capacity
+               and (number == len(texts) or not front or front.endswith(b"\n"))]
+    return fitting[-1] if fitting else (b"", first)
 
 
 class Replay:
@@ -226,8 +213,7 @@ class Installed:
             need_proved_program()
         cls.folder = new_folder(cls)
         cls.prefix = cls.folder + "/prefix"
-        ran = run([ROOT + "/bin/install", cls.build, cls.prefix], timeout=300)
-        assert ran.returncode == 0, ran.stderr.decode()
+        output_of(run([ROOT + "/bin/install", cls.build, cls.prefix], timeout=300), err=None)
         cls.library = Library(cls.prefix + "/lib/libpgn_c.so")
 
     def check(self, result, about=None, **wanted):
@@ -248,9 +234,9 @@ class Installed:
                        program]))
         return program
 
-    def check_loop(self, words, **env):
+    def check_loop(self, words):
         """The program of LIBRARY that loops over the games. Gives what ldd says of it."""
-        program, env = need_program(), dict(os.environ, **env)
+        program, env = need_program(), dict(os.environ, LD_LIBRARY_PATH=self.prefix + "/lib")
         text = next(it for _, it, _ in samples("c") if "pgn_next_game" in it)
         write_file(self.folder + "/loop.c", text)
         loop = self.compiled(self.folder + "/loop.c", *words)
@@ -276,22 +262,16 @@ class Installed:
         """The words for the static library."""
         return ["-I%s/include" % self.prefix, self.prefix + "/lib/libpgn_c.a"]
 
-    def test_a_program_with_the_shared_library(self):
-        words = self.flags()
-        self.assertEqual(words, ["-I%s/include" % self.prefix, "-L%s/lib" % self.prefix, "-lpgn_c"])
-        said = self.check_loop(words, LD_LIBRARY_PATH=self.prefix + "/lib")
-        self.assertIn(b"libpgn_c.so", said)
-
-    def test_a_program_with_the_static_library(self):
-        self.assertNotIn(b"libpgn_c", self.check_loop(self.static))
-
-    def test_what_the_static_library_needs_is_said(self):
-        words = [self.static[1] if it == "-lpgn_c" else it for it in self.flags("--static")]
-        self.check_loop(words)
-
-    def test_a_program_that_is_all_static(self):
-        said = self.check_loop([*self.flags("--static"), "-static"])
-        self.assertIn(b"not a dynamic executable", said)
+    def test_a_program_with_each_library(self):
+        """With the shared one, and with the static one: alone, as pkg-config says, all static."""
+        shared, static = self.flags(), self.flags("--static")
+        self.assertEqual(shared, [self.static[0], "-L%s/lib" % self.prefix, "-lpgn_c"])
+        named = [self.static[1] if it == "-lpgn_c" else it for it in static]
+        for words, said, is_said in (
+                (shared, b"libpgn_c.so", True), (self.static, b"libpgn_c", False),
+                (named, b"libpgn_c", False), ([*static, "-static"], b"not a dynamic exe", True)):
+            with self.subTest(words):
+                self.assertEqual(said in self.check_loop(words), is_said)
 
     def test_version(self):
         """That of the header, which is in the name of the shared library too."""
@@ -817,25 +797,21 @@ class Installed:
         pinned = b"4r2k/8/8/8/8/8/N3N3/4K3 w - - 0 1"
         castles = b"4k3/8/8/8/8/8/8/R3K2R w KQ - 0 1"
         attacked = b"4k1r1/8/8/8/8/8/8/R3K2R w KQ - 0 1"
-        for fen, text, form, piece, target, origins in (
+        for fen, text, form, piece, target, origins, *refused in (
                 (INITIAL, b"Nf3", 1, b"N", 21, {6: 2}), (INITIAL, b"e4", 1, b"P", 28, {12: 2}),
                 (INITIAL, b"Bd4", 1, b"B", 27, {}), (OPEN_GAME, b"Nge2", 1, b"N", 12, {6: 2}),
                 (pinned, b"Nc3", 1, b"N", 18, {8: 2, 12: 1}),
                 (pinned, b"Nac3", 1, b"N", 18, {8: 2}), (pinned, b"Nec3", 1, b"N", 18, {12: 1}),
                 (castles, b"O-O", 2, b"K", 6, {4: 2}), (castles, b"O-O-O", 3, b"K", 2, {4: 2}),
                 # castling to an attacked square is no step (FIDE Laws 3.8.2)
-                (attacked, b"O-O", 2, b"K", 6, {}), (castles, b"Kf1", 1, b"K", 5, {4: 2})):
-            self.check_explanation(fen, text, origins, status=OK, fault=0, field=0, form=form,
-                                   piece=ord(piece), target=target)
-        for fen, text, fault, field in ((b"x", b"e4", 26, 1), (INITIAL[:-2], b"e4", 26, 6),
-                                        (INITIAL, b"--", 33, 0), (INITIAL, b"", 33, 0)):
-            self.check_explanation(fen, text, {}, status=FAULT, fault=fault, field=field, form=0,
-                                   piece=0, target=0)
-
-    def check_explanation(self, fen, text, origins, **wanted):
-        result = self.library.call("pgn_explain", fen, text)
-        self.check(result, text, **wanted)
-        self.assertEqual({at: it for at, it in enumerate(result.origins) if it}, origins, text)
+                (attacked, b"O-O", 2, b"K", 6, {}), (castles, b"Kf1", 1, b"K", 5, {4: 2}),
+                # refused, by this fault and in this field
+                (b"x", b"e4", 0, 0, 0, {}, 26, 1), (INITIAL[:-2], b"e4", 0, 0, 0, {}, 26, 6),
+                (INITIAL, b"--", 0, 0, 0, {}, 33, 0), (INITIAL, b"", 0, 0, 0, {}, 33, 0)):
+            *found, steps = fields(self.library.call("pgn_explain", fen, text))
+            status = (FAULT, *refused) if refused else (OK, 0, 0)
+            self.assertEqual(found, [*status, form, piece and ord(piece), target], text)
+            self.assertEqual({at: it for at, it in enumerate(steps) if it}, origins, text)
 
 
 class InstalledByCargo(Installed, unittest.TestCase):
