@@ -68,8 +68,9 @@ def seen(source, **options):
     return found
 
 
-def texts_of(games):
-    return [it.text for it in games]
+def each(values, *names):
+    """What each value has by a name, or by several."""
+    return list(map(attrgetter(*names), values))
 
 
 def pairs_of(texts):
@@ -85,11 +86,6 @@ def first_game(data, **options):
 def first_line(data):
     """The moves of the first game of a source."""
     return first_game(data).moves()
-
-
-def last_fen(line):
-    """The position after a line."""
-    return line.plies[-1].fen if line.plies else line.fen
 
 
 def built(moves):
@@ -128,12 +124,6 @@ def pickled(value):
 def watched(module, name):
     """A patch that counts the calls of a function."""
     return mock.patch.object(module, name, wraps=getattr(module, name))
-
-
-def in_threads(call, values):
-    """What a function gives for each value, in threads side by side."""
-    with ThreadPoolExecutor(len(values)) as pool:
-        return list(pool.map(call, values))
 
 
 def cut(data, sizes):
@@ -374,9 +364,8 @@ class LateTexts(Folder):
             for source in self.sources(data):
                 held = list(gillspoon.games(source, **options))
                 self.assertEqual([list(it.tags.items()) for it in held], pairs_of(wanted), name)
-                self.assertEqual(texts_of(reversed(held)), wanted[::-1], name)
-                found = map(attrgetter("end", "plies", "fen", "result"), held)
-                self.assertEqual(list(found), [
+                self.assertEqual(each(reversed(held), "text"), wanted[::-1], name)
+                self.assertEqual(each(held, "end", "plies", "fen", "result"), [
                     (it.end, it.plies, it.fen.decode(), text.split()[-1].decode())
                     for it, text in answers], name)
 
@@ -386,8 +375,8 @@ class LateTexts(Folder):
             wanted = self.texts(data, checked=True)
             with mock.patch.object(gillspoon._games, "_CAPACITY", size):
                 held = list(gillspoon.games(data, checked=True))
-                self.assertEqual(texts_of(held), wanted, name)
-                self.assertEqual(texts_of(gillspoon.games(data, checked=True)), wanted, name)
+                self.assertEqual(each(held, "text"), wanted, name)
+                self.assertEqual(each(gillspoon.games(data, checked=True), "text"), wanted, name)
 
     def test_faults_between_games(self):
         """The sound games have the texts that they have by themselves."""
@@ -397,7 +386,7 @@ class LateTexts(Folder):
             data = b"\xef\xbb\xbf" + text.replace(b"\n", end).join(parts) + good
             for source in (data, Pieces(data, 50)):
                 faults = []
-                texts = texts_of(list(gillspoon.games(source, on_fault=faults.append)))
+                texts = each(list(gillspoon.games(source, on_fault=faults.append)), "text")
                 self.assertTrue(faults, name)
                 self.assertEqual([it for it in texts if it in wanted], wanted, name)
                 self.assertEqual(b"".join(texts[-3:]), gillspoon.convert(good), name)
@@ -416,7 +405,7 @@ class LateTexts(Folder):
                     for chosen in asked + [game] * (source.random() < 0.5):
                         self.assertEqual(chosen.text, wanted[chosen.number - 1])
                 tags = [dict(it.tags) for it in held]
-                self.assertEqual(texts_of(held), wanted)
+                self.assertEqual(each(held, "text"), wanted)
                 self.assertEqual([list(it.items()) for it in tags], pairs_of(wanted))
                 self.assertEqual([gillspoon.write_game(it.tags, it.moves()) for it in held], wanted)
 
@@ -425,13 +414,13 @@ class LateTexts(Folder):
         with open(self.put("a.pgn", data), "rb") as file:
             held = list(gillspoon.games(file))
         os.remove(file.name)
-        self.assertTrue(b"".join(texts_of(held)) == gillspoon.convert(data))
+        self.assertTrue(b"".join(each(held, "text")) == gillspoon.convert(data))
         changed = bytearray(data)
         games = gillspoon.games(changed)
         held = [next(games), next(games)]
         games.close()
         changed[:] = b"x" * len(data)
-        self.assertEqual(texts_of(held), self.texts(data)[:2])
+        self.assertEqual(each(held, "text"), self.texts(data)[:2])
 
     def test_pickled_before_and_after(self):
         data = b'e4 (d4) e5 1-0 [FEN "4k3/8/8/8/8/8/4P3/4K3 w - - 5 9"] {a} e4 {b} Kd7 1/2-1/2'
@@ -443,8 +432,8 @@ class LateTexts(Folder):
                 for it in (before, make(game)):
                     self.assertIs(type(it), gillspoon.Game)
                     self.has(it, **{name: getattr(game, name) for name in Views.GAME})
-                    self.assertEqual((repr(it), [ply.fen for ply in it.mainline()]),
-                                     (repr(game), [ply.fen for ply in game.mainline()]))
+                    self.assertEqual((repr(it), each(it.mainline(), "fen")),
+                                     (repr(game), each(game.mainline(), "fen")))
 
     def test_encodings(self):
         """The whole text decides on it, whatever is asked for first."""
@@ -478,7 +467,7 @@ class LateTexts(Folder):
             self.assertEqual(made.call_count, 0)
             self.assertGreater(read.call_count, 2 * count - 1)
             read.reset_mock()
-            self.assertEqual(len(texts_of(gillspoon.games(data))), count)
+            self.assertEqual(len(each(gillspoon.games(data), "text")), count)
             # one for each game, and those that found that more had to be read
             self.assertLess(read.call_count, 4)
             self.assertLess(made.call_count, count + 4)
@@ -498,7 +487,7 @@ class Positions(Test):
     def check_fens(self, line):
         """Each position is that after the move."""
         for fen, ply in steps(line):
-            self.assertEqual([it.fen for it in ply.variations], [fen] * len(ply.variations))
+            self.assertEqual(each(ply.variations, "fen"), [fen] * len(ply.variations))
             self.assertEqual(ply.fen, gillspoon.san(fen, ply.san).fen)
 
     def check(self, game, line=None):
@@ -511,15 +500,14 @@ class Positions(Test):
             self.assertEqual((ply.side[0], ply.move_number), (side, int(number)))
             count += len(ply.variations)
         self.check_fens(line)
-        self.assertEqual(last_fen(line), game.fen)
+        self.assertEqual([line.fen, *each(line, "fen")][-1], game.fen)
         return count
 
     def test_archives(self):
         for style, variations in (("plain", 0), ("annotated", 50)):
             count = plies = 0
             for game in gillspoon.games(archive(50, style)):
-                self.assertEqual([it.number for it in game.mainline()],
-                                 list(range(1, game.plies + 1)))
+                self.assertEqual(each(game.mainline(), "number"), list(range(1, game.plies + 1)))
                 count += self.check(game)
                 plies += game.plies
             self.assertGreaterEqual(count, variations)
@@ -532,8 +520,7 @@ class Positions(Test):
             fen = "4k3/8/8/8/8/8/4P3/4K3 %s - - 5 99" % side
             game = first_game(('[FEN "%s"] %s *' % (fen, text)).encode())
             line = game.moves()
-            self.assertEqual((line.fen, [(it.number, it.san) for it in line]),
-                             (fen, list(enumerate(sans, 1))))
+            self.assertEqual((line.fen, each(line, "number", "san")), (fen, [*enumerate(sans, 1)]))
             self.check(game, line)
         self.check(first_game(b'[FEN "r3k3/6P1/8/8/8/8/8/4K2R w Kq - 0 1"] O-O O-O-O g8=N *'))
 
@@ -541,9 +528,9 @@ class Positions(Test):
         game = first_game(b"e4 e5 (c5 Nf3 (c3) Nc6) Nf3 *")
         with watched(gillspoon._calls, "_line") as line:
             plies = list(game.mainline())
-            self.assertEqual([it.san for it in plies], ["e4", "e5", "Nf3"])
+            self.assertEqual(each(plies, "san"), ["e4", "e5", "Nf3"])
             self.assertEqual(line.call_count, 0)
-            self.assertEqual([it.uci for it in plies], ["e2e4", "e7e5", "g1f3"])
+            self.assertEqual(each(plies, "uci"), ["e2e4", "e7e5", "g1f3"])
             self.assertEqual((plies[2].fen, plies[0].fen), (game.fen, game.position_at(1)))
             self.assertEqual(line.call_count, 1)
             # where positions are asked for before the UCI, this is a second call, the first time
@@ -575,15 +562,14 @@ class Positions(Test):
             wanted = []
             for game in gillspoon.games(data):
                 game._habit = None
-                wanted.append([attrgetter("number", "san", "fen", "uci")(it)
-                               for it in game.mainline()])
+                wanted.append(each(game.mainline(), "number", "san", "fen", "uci"))
             foreseen = 0
             for game, plies in zip(gillspoon.games(data), wanted):
                 line = game.moves()
                 foreseen += any(isinstance(it, gillspoon._moves._PlacedPly) for it in line)
                 for make in (lambda it: it, pickled, *COPIES):
-                    self.assertEqual([it.fen for it in make(line)], [it[2] for it in plies])
-                    self.assertEqual([(it.number, it.san, it.fen) for it in map(make, line)],
+                    self.assertEqual(each(make(line), "fen"), [it[2] for it in plies])
+                    self.assertEqual(each(map(make, line), "number", "san", "fen"),
                                      [it[:3] for it in plies])
                 self.assertEqual(game.position_at(game.plies), game.fen)
             self.assertEqual(bool(foreseen), is_foreseen)
@@ -604,7 +590,7 @@ class Positions(Test):
                     line = game.moves()
                     for make in (lambda it: it, copies.copy, pickled):
                         self.assertEqual(tree(make(line)), its_tree)
-                    self.assertEqual(last_fen(line), game.fen)
+                    self.assertEqual([line.fen, *each(line, "fen")][-1], game.fen)
                     self.assertEqual(gillspoon.write_game(game.tags, line, encoding=game.encoding),
                                      text)
             self.assertGreater(items.call_count, 0)
@@ -622,7 +608,7 @@ class Positions(Test):
                 ask(game.moves())
                 self.assertEqual((line.call_count, items.call_count), counts)
             for game in gillspoon.games(data):
-                self.assertTrue([it.fen for it in game.mainline()])
+                self.assertTrue(each(game.mainline(), "fen"))
             self.assertEqual((line.call_count, items.call_count), (7, 2))
         for game, line in zip(list(gillspoon.games(data))[2:], found):
             self.check(game, line)
@@ -647,7 +633,7 @@ class Positions(Test):
         plies = list(game.mainline())
         self.assertEqual((len(plies), plies[-1].fen), (4000, game.fen))
         self.assertEqual({it.uci for it in plies}, {"g1f3", "g8f6", "f3g1", "f6g8"})
-        self.assertEqual([it.fen for it in first_game(data).mainline()], [it.fen for it in plies])
+        self.assertEqual([it.fen for it in first_game(data).mainline()], each(plies, "fen"))
 
     def test_sans_beside_foreseen_positions(self):
         """They are found where one is asked for, and then for all games behind that."""
@@ -655,11 +641,11 @@ class Positions(Test):
         with watched(gillspoon._moves, "_sans_of") as sans_of:
             for game in gillspoon.games(b"e4 e5 * d4 d5 Nf3 * Nf3 Nf6 g3 * c4 c5 *"):
                 plies = list(game.mainline())
-                self.assertEqual([it.fen for it in plies][-1], game.fen)
+                self.assertEqual(each(plies, "fen")[-1], game.fen)
                 if game.number == 3:
                     plies[1].san = "d5"
                     for these in (plies, copies.deepcopy(plies), pickled(plies)):
-                        self.assertEqual([(it.san, it.uci) for it in these], [
+                        self.assertEqual(each(these, "san", "uci"), [
                             ("Nf3", "g1f3"), ("d5", "g8f6"), ("g3", "g2g3")])
                 counts.append(sans_of.call_count)
         self.assertEqual(counts, [1, 1, 2, 3])
@@ -676,23 +662,15 @@ class Positions(Test):
         line = game.moves()
         line.plies[1].san = "c5"
         for plies in (line.plies, copies.deepcopy(line).plies, copies.deepcopy(line.plies)):
-            self.assertEqual([(it.san, it.uci) for it in plies], [
+            self.assertEqual(each(plies, "san", "uci"), [
                 ("e4", "e2e4"), ("c5", "e7e5"), ("Nf3", "g1f3")])
             self.assertEqual(plies[2].fen, game.fen)
-
-    def test_threads(self):
-        data = archive(30, "plain")
-
-        def read(data):
-            return [[it.fen for it in game.mainline()] for game in gillspoon.games(data)]
-
-        self.assertEqual(in_threads(read, [data] * 4), [read(data)] * 4)
 
     def test_sides_and_numbers(self):
         sicilian, = first_line(b"1. e4 e5 (1... c5 2. Nf3 (2. c3 d5)) 2. Ke2 *").plies[1].variations
         inner, = sicilian.plies[1].variations
         for line in (inner, pickled(inner), copies.deepcopy(inner)):
-            self.assertEqual([(it.number, it.side, it.move_number) for it in line],
+            self.assertEqual(each(line, "number", "side", "move_number"),
                              [(3, "white", 2), (4, "black", 2)])
 
     def orders(self, white, black):
@@ -746,7 +724,7 @@ class Views(unittest.TestCase):
             first, second = ([ply for _, ply in steps(it.moves())]
                              for it in gillspoon.games(text * 2))
             self.assertGreater(sum(hasattr(it, "_fen") for it in second), 1)
-            self.assertEqual([it.fen for it in first], [it.fen for it in second])
+            self.assertEqual(each(first, "fen"), each(second, "fen"))
             foreseen += second
         for it in (*gillspoon.games(b"e4 e5 1-0 d4 d5 1-0", checked=True), *line, *foreseen,
                    line.plies[0].variations[0].plies[0], gillspoon.Line().append("c4")):
@@ -789,7 +767,7 @@ class Built(Test):
         line.append("Ng1f3", comment="")
         line.notes.append("first")
         self.has(e4, number=1, san="e4", uci="e2e4", notes=[1, 14, "best"], fen=E4)
-        self.assertEqual([(it.number, it.san, it.uci) for it in line][1:],
+        self.assertEqual(each(line, "number", "san", "uci")[1:],
                          [(2, "e5", "e7e5"), (3, "Nf3", "g1f3")])
         self.assertEqual((line.fen, len(line)), (INITIAL, 3))
         self.assertEqual(self.movetext(line, Result="1-0"), (
@@ -849,7 +827,7 @@ class Built(Test):
     def test_a_line_that_was_read_goes_on(self):
         """Also one whose positions were foreseen, and a variation."""
         for game in gillspoon.games(b"e4 e5 (c5 Nf3) * e4 e5 *"):
-            self.assertTrue([it.fen for it in game.mainline()])
+            self.assertTrue(each(game.mainline(), "fen"))
             line = game.moves()
             self.assertEqual((line.append("Nc3").number, line.append("Nc6").number), (3, 4))
             line.plies[1].add_variation("e6").append("d4")
@@ -988,10 +966,10 @@ class Pickled(Test):
     def test_a_changed_line(self):
         """A ply whose predecessor is in no list of plies keeps its position."""
         line = first_line(b"e4 e5 Nf3 (Nc3) Nc6 *")
-        wanted = [it.fen for it in line][2:]
+        wanted = each(line, "fen")[2:]
         del line.plies[:2]
         copy = pickled(line)
-        self.assertEqual([it.fen for it in copy], wanted)
+        self.assertEqual(each(copy, "fen"), wanted)
         self.assertEqual(copy.plies[0].variations[0].plies[0].fen.split()[0],
                          "rnbqkbnr/pppp1ppp/8/4p3/4P3/2N5/PPPP1PPP/R1BQKBNR")
 
@@ -1091,9 +1069,9 @@ class Faults(Folder):
             faults, data = [], sound(b"a") + text + sound(b"b") + text
             ends = [(it.offset, it.end) for it in gillspoon.games(data, on_fault=faults.append)]
             left = bytearray(data)
-            for begin, end in ends + [(it.begin, it.end) for it in faults]:
+            for begin, end in ends + each(faults, "begin", "end"):
                 left[begin:end] = b" " * (end - begin)
-            self.assertEqual(texts_of(faults), [data[it.begin:it.end] for it in faults], name)
+            self.assertEqual(each(faults, "text"), [data[it.begin:it.end] for it in faults], name)
             self.assertEqual(left.strip(), b"", name)
 
     def test_pickle(self):
@@ -1187,7 +1165,7 @@ class Faults(Folder):
                     self.assertEqual("byte %d: %s" % (fault.offset, fault.reason), told["message"])
                     self.assertTrue(output.startswith(b"".join(texts)))
                     continue
-                self.assertEqual(b"".join(texts_of(games)), output)
+                self.assertEqual(b"".join(each(games, "text")), output)
                 self.assertEqual(gillspoon.convert(data, **options), output)
                 if not options["reduced"]:
                     self.assertEqual(gillspoon.check(data), (vector["games"], vector["plies"]))
@@ -1196,13 +1174,18 @@ class Faults(Folder):
 
 class Calls(Test):
     def test_threads(self):
-        text = archive(200, "plain")
+        """Conversions, and positions of games, in threads side by side."""
+        text, few = archive(200, "plain"), archive(30, "plain")
 
         def convert(is_reduced):
             return gillspoon.convert(text, reduced=is_reduced)
 
-        wanted = [convert(it) for it in (False, True)]
-        self.assertTrue(in_threads(convert, [False, True] * 2) == wanted * 2)
+        def fens(data):
+            return [each(game.mainline(), "fen") for game in gillspoon.games(data)]
+
+        for call, values in (convert, [False, True]), (fens, [few, few]):
+            with ThreadPoolExecutor(4) as pool:
+                self.assertTrue(list(pool.map(call, values * 2)) == [*map(call, values)] * 2)
 
     def test_fen(self):
         self.assertEqual(gillspoon.normalize_fen("4k3/44/8/8/8/8/8/4K3 w - - 00 01"),
@@ -1393,7 +1376,7 @@ class InPieces(unittest.TestCase):
 
     def check_converted(self, data, sizes=(1, 50, 400, 5000), **options):
         """Compares `convert` with what `games` gives, for pieces of several sizes."""
-        wanted = self.either(lambda: b"".join(texts_of(gillspoon.games(data, **options))))
+        wanted = self.either(lambda: b"".join(each(gillspoon.games(data, **options), "text")))
         for size in sizes:
             with mock.patch.object(gillspoon._games, "PIECE", size):
                 found = self.either(gillspoon.convert, data, **options)
@@ -1434,28 +1417,24 @@ class InPieces(unittest.TestCase):
     def test_a_gap_is_let_go(self):
         """Megabytes of empty lines between games do not stay in memory."""
         parts = [b"1. e4 *\n"] + [b" " * 1000 + b"\n\r"] * 9000 + [b"1. d4 *"]
-        self.assertLess(self.most_held(lambda: self.assertEqual(len(seen(Pieces(parts))), 2)),
-                        1 << 16)
+        games, most = self.held(seen, parts)
+        self.assertEqual(len(games), 2)
+        self.assertLess(most, 1 << 16)
 
     def test_a_bad_game_is_let_go(self):
         """gillspoon lint does not need its text. For `on_fault` it stays as a whole."""
-        lines = [b"e9 " * 300 + b"\n"] * 3000
-        parts = [b"1. e4 e9\n", *lines, sound(b"b")]
-        findings = importlib.import_module("gillspoon._findings")
+        lines = [b"1. e4 e9\n", *[b"e9 " * 300 + b"\n"] * 3000]
+        bad, parts = b"".join(lines), [*lines, sound(b"b")]
+        linter = importlib.import_module("gillspoon._findings").Linter
+        found, most = self.held(lambda source: list(linter(source, "a", False).findings()), parts)
+        self.assertEqual([it.end - it.begin for it in found], [len(bad)])
+        self.assertLess(most, 1 << 16)
+        (fault, game), most = self.held(seen, parts)
+        self.assertTrue(fault[9] == bad and game[4] == 3)
+        self.assertLess(most, 4 << 20)
 
-        def lint():
-            found = list(findings.Linter(Pieces(parts), "a", False).findings())
-            self.assertEqual([it.end - it.begin for it in found], [len(b"".join(parts[:-1]))])
-
-        def read():
-            fault, game = seen(Pieces(parts))
-            self.assertTrue(fault[9] == b"".join(parts[:-1]) and game[4] == 3)
-
-        self.assertLess(self.most_held(lint), 1 << 16)
-        self.assertLess(self.most_held(read), 4 << 20)
-
-    def most_held(self, call):
-        """The most bytes of a source that are in memory during a call."""
+    def held(self, call, parts):
+        """What a call gives for a source in parts, and the most bytes of that in memory."""
         window, sizes = gillspoon._sources.Window, [0]
         more = window.more
 
@@ -1465,8 +1444,7 @@ class InPieces(unittest.TestCase):
             return got
 
         with mock.patch.object(window, "more", measured):
-            call()
-        return max(sizes)
+            return call(Pieces(parts)), max(sizes)
 
     def test_memory(self):
         """It stays within some MiB, also for a large input, and for one with bad games."""
@@ -1499,7 +1477,7 @@ class InPieces(unittest.TestCase):
         """Also short texts with a long export, as one piece or as several."""
         texts = (archive(30, "annotated"), archive(30, "plain"), b"1. e4 *\n" * 999, b"*" * 999,
                  b"*" * 3000, b"*", b"")
-        wanted = [b"".join(texts_of(gillspoon.games(it))) for it in texts]
+        wanted = [b"".join(each(gillspoon.games(it), "text")) for it in texts]
         for size in (2000, gillspoon._games.PIECE):
             with mock.patch.object(gillspoon._games, "PIECE", size), \
                     mock.patch.object(gillspoon._games, "_each", side_effect=AssertionError):
@@ -1534,9 +1512,9 @@ class Sieve(Folder):
         ran = run([ROOT + "/bin/gillspoon", "sieve", path, self.folder + "/good",
                    self.folder + "/bad"], env=dict(os.environ, PGN_TOOL=self.program))
         self.assertLessEqual(ran.returncode, 1, ran.stderr)
-        texts = texts_of(gillspoon.games(path, on_fault=faults.append))
+        texts = each(gillspoon.games(path, on_fault=faults.append), "text")
         self.assertEqual(b"".join(texts), self.get("good"))
-        self.assertEqual(texts_of(faults), [data[it.begin:it.end] for it in faults])
+        self.assertEqual(each(faults, "text"), [data[it.begin:it.end] for it in faults])
         notes = re.findall(rb"(?m)^% byte (\d+): (.*); line (\d+)\n% bytes (\d+) to (\d+),",
                            self.get("bad"))
         # a byte order mark between games is a fault, and no bad game
@@ -1576,7 +1554,7 @@ class Sieve(Folder):
         data = sound(b"a") + bad + sound(b"b") + mark + sound(b"c")
         self.assertEqual([(it.number, it.tags["Event"]) for it in gillspoon.games(
             data, on_fault=faults.append)], [(1, "a"), (3, "b"), (4, "c")])
-        self.assertEqual([it.game for it in faults], [2, 4])
+        self.assertEqual(each(faults, "game"), [2, 4])
 
     def test_random_damage(self):
         source, whole = random.Random(7), archive(30, "annotated") + archive(30, "plain")
@@ -1712,8 +1690,7 @@ class Written(Test):
                 text = gillspoon.write_game(tags, line, encoding=game.encoding)
                 written, = gillspoon.games(text)
                 self.assertEqual(written.position_at(0), line.fen)
-                self.assertEqual([(it.san, it.fen) for it in written.mainline()],
-                                 [(it.san, it.fen) for it in line])
+                self.assertEqual(each(written.mainline(), "san", "fen"), each(line, "san", "fen"))
                 self.assertEqual("FEN" in written.tags, line.fen != INITIAL)
         return count
 
@@ -2025,6 +2002,12 @@ PRINTED = {
     "Go back to a game by its place": "Nowak, A. * 4\n",
     "Visit every variation":
         "1 10 moves, to depth 1\n2 4 moves, to depth 0\n4 1 moves, to depth 0\n",
+    "Build a game of moves":
+        '[Event "?"]\n[Site "?"]\n[Date "????.??.??"]\n[Round "?"]\n[White "Silva, J."]\n'
+        '[Black "Nowak, A."]\n[Result "1-0"]\n[WhiteElo "1850"]\n\n'
+        "1. e4 e5 2. Bc4 Nc6 3. Qh5 Nf6 4. Qxf7# 1-0\n\n"
+        "1. e4 e5 2. Bc4 Nc6 3. Qh5 Nf6 $4 ( 3... g6 $1 { defends } 4. Qf3 ) 4. Qxf7#\n1-0\n"
+        "4 white Qxf7# h5f7\nmove is not legal: Kxf7\n",
 }
 # What is said of the bad game of the samples.
 FAULT = "line 14, column 13: move is not legal: Bd4 (game 3, Okafor, Ben - Amaral, Rita)"
@@ -2044,14 +2027,10 @@ class Documents(Folder):
         path = self.put("sample.py", text.encode())
         return run([PYTHON, path, *words], cwd=self.folder, env=environment())
 
-    def sample(self, heading, *words):
+    def sample(self, heading, *words, without="games.pgn: %s\n" % FAULT):
         """What the sample below a heading of docs/PYTHON.md prints, but the line of the fault."""
-        return self.whole_sample(heading, *words).replace("games.pgn: %s\n" % FAULT, "")
-
-    def whole_sample(self, heading, *words):
-        """All that it prints."""
         shown = output_of(self.ran(self.text_of(heading), *words)).decode()
-        return shown.replace("pgn.zst: ", "pgn: ")
+        return shown.replace("pgn.zst: ", "pgn: ").replace(without, "")
 
     def text_of(self, heading):
         """The sample below a heading."""
@@ -2080,7 +2059,7 @@ class Documents(Folder):
     def test_there_are_ten_recipes(self):
         headings = re.findall(r"(?m)^### (.*)$", text_of("docs/PYTHON.md"))
         self.assertGreaterEqual(len(headings), 10)
-        tested = set(re.findall(r'self\.(?:whole_)?sample\("(.*?)"', text_of(__file__)))
+        tested = set(re.findall(r'self\.sample\("(.*?)"', text_of(__file__)))
         self.assertEqual(set(headings) - tested - set(PRINTED), set())
 
     def test_what_samples_print(self):
@@ -2115,17 +2094,9 @@ class Documents(Folder):
                 self.assertIn(b"Error: ", ran.stderr)
                 self.assertEqual(self.get(name), b"old", head)
 
-    def test_build(self):
-        lines = self.sample("Build a game of moves").splitlines()
-        self.assertEqual(lines[4:], [
-            '[White "Silva, J."]', '[Black "Nowak, A."]', '[Result "1-0"]', '[WhiteElo "1850"]', "",
-            "1. e4 e5 2. Bc4 Nc6 3. Qh5 Nf6 4. Qxf7# 1-0", "",
-            "1. e4 e5 2. Bc4 Nc6 3. Qh5 Nf6 $4 ( 3... g6 $1 { defends } 4. Qf3 ) 4. Qxf7#", "1-0",
-            "4 white Qxf7# h5f7", "move is not legal: Kxf7"])
-
     def test_report(self):
         self.assertEqual(
-            self.whole_sample("Report what is rejected"),
+            self.sample("Report what is rejected", without=""),
             "games.pgn: " + FAULT + "\n    in "
             "rnbqkbnr/pppp1ppp/8/4p3/4P3/8/PPPP1PPP/RNBQKBNR w KQkq e6 0 2\n")
         self.assertEqual(self.get("bad.pgn"), b'[White "Okafor, Ben"]\n[Black "Amaral, Rita"]\n\n'
