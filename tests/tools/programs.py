@@ -1,6 +1,5 @@
 """What several tests of the tools need: the program, and other programs that may be missing."""
 import bz2
-import contextlib
 import fcntl
 import functools
 import glob
@@ -389,22 +388,18 @@ def run_on_a_disk(size, script, folder, *words, **more):
     return ran
 
 
-@contextlib.contextmanager
 def closed_pipe():
-    """The end of a pipe to write into, whose other end is closed."""
+    """The end of a pipe to write into, as a file. The other end is closed."""
     ours, its = os.pipe()
     os.close(ours)
-    with open(its, "wb") as closed:
-        yield closed
+    return open(its, "wb")
 
 
-@contextlib.contextmanager
 def full_device():
-    """A device that has no room; the test is left out without one."""
+    """A device that has no room, as a file; the test is left out without one."""
     if not os.path.exists("/dev/full"):
         not_tried("/dev/full is missing")
-    with open("/dev/full", "wb") as full:
-        yield full
+    return open("/dev/full", "wb")
 
 
 def files_up_to(size):

@@ -168,8 +168,7 @@ def cargo(*words, folder=OUT, target="target", **env):
 
 
 def write_out(out=OUT):
-    ran = run([sys.executable, "bin/to_cargo", out])
-    assert ran.returncode == 0, ran.stderr.decode()
+    output_of(run([sys.executable, "bin/to_cargo", out]), err=None)
 
 
 def built():

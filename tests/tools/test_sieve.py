@@ -124,11 +124,9 @@ class Sieved(programs.Folder):
 
     def left(self):
         """The input without what is in BAD, and without marks that joining left."""
-        parts, at = [], 0
-        for _, _, _, begin, end in self.notes:
-            parts.append(self.text[at:begin])
-            at = end
-        return b"\n".join([*parts, self.text[at:]]).replace(b"\xef\xbb\xbf", b"")
+        begins, ends = [0, *(it[4] for it in self.notes)], [*(it[3] for it in self.notes), None]
+        parts = [self.text[begin:end] for begin, end in zip(begins, ends)]
+        return b"\n".join(parts).replace(b"\xef\xbb\xbf", b"")
 
 
 class SieveTest(programs.Folder, unittest.TestCase):
@@ -243,12 +241,6 @@ class SieveTest(programs.Folder, unittest.TestCase):
         self.assertEqual(sorted(os.listdir(folder)), ["a.pgn", "link.pgn"])
         self.assertEqual(self.get("a.pgn"), A)
 
-    def test_a_pipe_is_read(self):
-        done = Sieved(self, A + BAD[0][1])
-        script = 'cat in.pgn | "$@" /dev/stdin g b'
-        output_of(run(["sh", "-c", script, "sh", sys.executable, *SIEVE], cwd=done.folder), 1)
-        self.outputs(done, "g", "b")
-
     def test_many_files(self):
         """Folders, zips and standard input too; BAD names the file of each bad game."""
         bad = b'[White "Bo"]\n\n1. e4 e9 *\n'
@@ -282,12 +274,12 @@ class SieveTest(programs.Folder, unittest.TestCase):
             self.assertEqual(done.get(done.folder + "/it"), wanted)
 
     def test_standard_input(self):
-        """It is a file; test_compressed has a pipe."""
+        """It is a file, or a pipe; test_compressed has more."""
         done = Sieved(self, A + BAD[0][1] + b"\n" + B + BAD[-1][1])
-        outputs = [done.folder + "/g", done.folder + "/b"]
-        with open(done.paths[0], "rb") as file:
-            output_of(call(["-", *outputs], stdin=file), 1)
-        self.outputs(done, *outputs)
+        for script, *outputs in (('"$@" - a b <in.pgn', "a", "b"),
+                                 ('cat in.pgn | "$@" /dev/stdin c d', "c", "d")):
+            output_of(run(["sh", "-c", script, "sh", sys.executable, *SIEVE], cwd=done.folder), 1)
+            self.outputs(done, *outputs)
         self.assertEqual(call(["-", *done.paths[1:]], input=A).returncode, 0)
 
     def test_dev_null_as_an_output(self):

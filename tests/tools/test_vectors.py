@@ -269,22 +269,19 @@ class Conform(Folder, unittest.TestCase):
             programs.not_tried("the table of pgn-extract is that of another version")
         text = text_of("vectors/README.md")
         command = re.search(r"^bin/pgn_conform --refusal (?:.*\\\n)*.*$", text, re.MULTILINE)[0]
-        ran = run(["sh", "-c", command])
-        self.assertEqual(ran.returncode, 1)
-        self.assertIn("| all | %d |" % len(programs.vectors()), ran.stdout.decode())
-        self.assertIn("\n\n" + ran.stdout.decode() + "\n", text, "--record writes it anew")
+        table = programs.output_of(run(["sh", "-c", command]), 1, err=None).decode()
+        self.assertIn("| all | %d |" % len(programs.vectors()), table)
+        self.assertIn("\n\n" + table + "\n", text, "--record writes it anew")
 
     def test_the_table_is_recorded(self):
         copy = Copy(self)
         before = copy.text("vectors/README.md")
         ran = run([copy.folder + "/bin/pgn_conform", "--record", "--theme", "limits", "cat"])
-        self.assertEqual((ran.returncode, ran.stderr), (1, b""))
+        table = programs.output_of(ran, 1).decode()
+        self.assertIn("\n| limits | ", table)
         begin, end = ("<!-- bin/pgn_conform --record: %s -->" % it for it in ("begin", "end"))
-        self.assertIn("\n| limits | ", ran.stdout.decode())
-        self.assertEqual(
-            copy.text("vectors/README.md"),
-            before.split(begin)[0] + begin + "\n\n" + ran.stdout.decode() + "\n" + end
-            + before.split(end)[1])
+        head, tail = before.split(begin)[0] + begin, end + before.split(end)[1]
+        self.assertEqual(copy.text("vectors/README.md"), head + "\n\n" + table + "\n" + tail)
 
     def test_one_vector_is_shown_if_it_is_there(self):
         vector = by_file()["main_lines.two-games"]
