@@ -88,6 +88,11 @@ def first_line(data):
     return first_game(data).moves()
 
 
+def last_fen(line):
+    """The position after a line."""
+    return line.plies[-1].fen if line.plies else line.fen
+
+
 def built(moves):
     """A line of these moves."""
     line = gillspoon.Line()
@@ -500,7 +505,7 @@ class Positions(Test):
             self.assertEqual((ply.side[0], ply.move_number), (side, int(number)))
             count += len(ply.variations)
         self.check_fens(line)
-        self.assertEqual([line.fen, *each(line, "fen")][-1], game.fen)
+        self.assertEqual(last_fen(line), game.fen)
         return count
 
     def test_archives(self):
@@ -590,7 +595,7 @@ class Positions(Test):
                     line = game.moves()
                     for make in (lambda it: it, copies.copy, pickled):
                         self.assertEqual(tree(make(line)), its_tree)
-                    self.assertEqual([line.fen, *each(line, "fen")][-1], game.fen)
+                    self.assertEqual(last_fen(line), game.fen)
                     self.assertEqual(gillspoon.write_game(game.tags, line, encoding=game.encoding),
                                      text)
             self.assertGreater(items.call_count, 0)
